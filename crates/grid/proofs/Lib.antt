@@ -1,0 +1,5 @@
+pub mod RowLaws
+pub mod MapLaws
+pub mod FillLaws
+pub mod MarkLaws
+pub mod Restore

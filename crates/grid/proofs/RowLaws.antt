@@ -1,0 +1,153 @@
+-- Laws of the rows of a table: how many there are, the largest cell one unit below, and rising. Assumes nothing.
+use mathlib.Core.Path.{_≡_, refl, sym, ap₂, _∙_}
+use mathlib.Core.Bool.{Bool, true, false, cond, _&&_, and-eq-true-iff}
+use mathlib.Core.List.{List, [], _∷_, _++_}
+use Prim.Native.Nat.{ℕ, zero, suc, _+_, _-_, _*_, _/_, _%_, _≤_, _<_, max}
+use native.Mathlib.Nat.{div-eq-of-lt, div-lt-iff-lt-mul, div-div-eq-div-mul, div-one, zero-mod, mod-le, le-trans, lt-of-lt-of-le, le-mul-of-pos-right, mul-pos, max-zero}
+use native.Mathlib.Numerals.{add-one}
+use native.Mathlib.Decide.{decLt}
+use native.Mathlib.Omega.{arith}
+use borrow.Author.Tests.{ltb-true, leb-true}
+use lib.Dec.{ltb, leb}
+use lib.ListN.{length, getD, set, drop, List·getD-append}
+use lib.Seq.{drop-cons, drop-length, getD-set-same, getD-set-other}
+use Rattle.grid.specs.Rows.{rowsOf, lessOne, largestBelow, rising}
+
+-- ---- the number of rows
+
+pub rows-pos : (us : List ℕ) → 0 < rowsOf us
+unfolding rowsOf
+rows-pos [] = omega arith
+rows-pos (u ∷ us) = mul-pos (rows-pos us) (omega arith)
+
+-- fewer items have no more rows
+pub rows-drop : (j : ℕ) (us : List ℕ) → rowsOf (drop j us) ≤ rowsOf us
+unfolding rowsOf
+rows-drop zero us = omega arith
+rows-drop (suc j) [] = omega arith
+rows-drop (suc j) (u ∷ us) = le-trans (rows-drop j us) (le-mul-of-pos-right {m = u + 1} (rowsOf us) (omega arith))
+
+-- one item more, from the end
+pub rows-cons : (j : ℕ) (us : List ℕ) → j < length us → rowsOf (drop j us) ≡ rowsOf (drop (j + 1) us) * (getD us j 0 + 1)
+unfolding rowsOf
+rows-cons j us h = rw (add-one j, drop-cons us j 0 h)
+
+pub rows-end : (us : List ℕ) → rowsOf (drop (length us) us) ≡ 1
+unfolding rowsOf
+rows-end us = rw (drop-length us)
+
+-- one turn of a walk over the items from the last to the first
+pub rows-turn : (j k n : ℕ) (us : List ℕ) → 0 < j → j ≤ length us → k ≡ rowsOf (drop j us) → n ≡ getD us (j - 1) 0 + 1
+    → k * n ≡ rowsOf (drop (j - 1) us)
+rows-turn j k n us p h e f =
+    let q : j - 1 + 1 ≡ j = omega arith in
+    sym (rows-cons (j - 1) us (omega arith) ∙ rw (q, ← e, ← f))
+
+-- ---- the largest cell one unit below
+
+-- a row with a unit of an item is not below the rows of one unit of it
+pub unit-le : (r k : ℕ) → 0 < r / k → k ≤ r
+unit-le r k h = go (decLt r k)
+  where
+    go : Dec (r < k) → k ≤ r
+    go (yes l) = let z : r / k ≡ 0 = div-eq-of-lt l in absurd (omega arith)
+    go (no m) = omega arith
+
+pub has-unit : (r k n : ℕ) → 0 < r / k % n → k ≤ r
+has-unit r k n h = unit-le r k (omega (arith, mod-le (r / k) n))
+
+-- items whose unit is more rows than r do not count
+pub largest-drop : (j : ℕ) (us cells : List ℕ) (r : ℕ) → r < rowsOf (drop j us) → largestBelow us cells r ≡ largestBelow (drop j us) cells r
+unfolding largestBelow lessOne
+largest-drop zero us cells r h = refl
+largest-drop (suc j) [] cells r h = refl
+largest-drop (suc j) (u ∷ us) cells r h =
+    let l : r < rowsOf us = lt-of-lt-of-le h (rows-drop j us) in
+    rw (div-eq-of-lt l, zero-mod) (max-zero (largestBelow us cells r) ∙ largest-drop j us cells r h)
+
+-- one item more, from the end
+largest-cons : (j : ℕ) (us cells : List ℕ) (r : ℕ) → j < length us
+    → largestBelow (drop j us) cells r ≡ max (largestBelow (drop (j + 1) us) cells r) (lessOne (getD us j 0) (rowsOf (drop (j + 1) us)) cells r)
+unfolding largestBelow
+largest-cons j us cells r h = rw (add-one, drop-cons us j 0 h)
+
+less-one-ext : (u k : ℕ) (xs ys : List ℕ) (r : ℕ) → 0 < k → ((i : ℕ) → i < r → getD xs i 0 ≡ getD ys i 0) → lessOne u k xs r ≡ lessOne u k ys r
+unfolding lessOne
+less-one-ext u k xs ys r p h = go (ltb 0 (r / k % (u + 1))) refl
+  where
+    go : (t : Bool) → ltb 0 (r / k % (u + 1)) ≡ t → cond t (getD xs (r - k) 0) 0 ≡ cond t (getD ys (r - k) 0) 0
+    go true e =
+        let l : k ≤ r = has-unit r k (u + 1) (ltb-true _ _ e) in
+        h (r - k) (omega arith)
+    go false e = refl
+
+-- only the rows before r count
+pub largest-ext : (us xs ys : List ℕ) (r : ℕ) → ((i : ℕ) → i < r → getD xs i 0 ≡ getD ys i 0) → largestBelow us xs r ≡ largestBelow us ys r
+unfolding largestBelow
+largest-ext [] xs ys r h = refl
+largest-ext (u ∷ us) xs ys r h = ap₂ max (largest-ext us xs ys r h) (less-one-ext u (rowsOf us) xs ys r (rows-pos us) h)
+
+pub largest-front : (us xs ys : List ℕ) (r : ℕ) → r ≤ length xs → largestBelow us (xs ++ ys) r ≡ largestBelow us xs r
+largest-front us xs ys r h = largest-ext us (xs ++ ys) xs r (λ i l. List·getD-append xs ys 0 i (omega arith))
+
+-- ---- the walk over the items, from the last to the first
+
+-- the items from j on are passed: the one before them takes k rows a unit, row r has q times k rows before it, and b is the largest so far
+pub record Walked (us cells : List ℕ) (r j k q b : ℕ) : Type 0 where
+  pub within : j ≤ length us
+  pub stride : k ≡ rowsOf (drop j us)
+  pub quotient : q ≡ r / k
+  pub largest : b ≡ largestBelow (drop j us) cells r
+
+pub walk-start : (us cells : List ℕ) (r : ℕ) → Walked us cells r (length us) 1 r 0
+unfolding largestBelow
+walk-start us cells r =
+    record { within = omega arith; stride = sym (rows-end us); quotient = sym (div-one r); largest = rw (drop-length us) }
+
+-- past item j - 1, which has n - 1 units
+pub walk-turn : {us cells : List ℕ} {r j k q b n b′ : ℕ} → Walked us cells r j k q b → 0 < j → n ≡ getD us (j - 1) 0 + 1
+    → b′ ≡ max b (cond (ltb 0 (q % n)) (getD cells (r - k) 0) 0) → Walked us cells r (j - 1) (k * n) (q / n) b′
+unfolding lessOne
+walk-turn {us} {cells} {r} {j} {k} {n = n} w p e f =
+    let i : j - 1 + 1 ≡ j = omega arith in
+    record {
+      within = omega arith;
+      stride = rows-turn j k n us p (w .within) (w .stride) e;
+      quotient = rw (w .quotient) (div-div-eq-div-mul r k n);
+      largest = f ∙ sym (largest-cons (j - 1) us cells r (omega (arith, w .within)) ∙ rw (i, ← e, ← w .stride, ← w .largest, ← w .quotient));
+    }
+
+-- with fewer than k rows before row r the items that are left do not count
+pub walk-done : {us cells : List ℕ} {r j k q b : ℕ} → Walked us cells r j k q b → q ≡ 0 → b ≡ largestBelow us cells r
+walk-done {us} {cells} {r} {j} {k} w z =
+    let p : 0 < k = rw (w .stride) (rows-pos (drop j us)) in
+    let l : r < 1 * k = div-lt-iff-lt-mul p .0 (omega (arith, w .quotient)) in
+    w .largest ∙ sym (largest-drop j us cells r (rw (← w .stride) (omega arith)))
+
+-- ---- rising
+
+pub rising-ext : (us xs ys : List ℕ) (n : ℕ) → ((i : ℕ) → i < n → getD xs i 0 ≡ getD ys i 0) → rising us xs n ≡ rising us ys n
+unfolding rising
+rising-ext us xs ys zero h = refl
+rising-ext us xs ys (suc n) h =
+    ap₂ _&&_ (rising-ext us xs ys n (λ i l. h i (omega arith)))
+    (ap₂ leb (largest-ext us xs ys n (λ i l. h i (omega arith))) (h n (omega arith)))
+
+pub rising-front : (us xs ys : List ℕ) (n : ℕ) → n ≤ length xs → rising us (xs ++ ys) n ≡ rising us xs n
+rising-front us xs ys n h = rising-ext us (xs ++ ys) xs n (λ i l. List·getD-append xs ys 0 i (omega arith))
+
+-- one more cell is stored
+pub rising-set : (us cells : List ℕ) (r v : ℕ) → r < length cells
+    → rising us (set cells r v) (suc r) ≡ (rising us cells r && leb (largestBelow us cells r) v)
+unfolding rising
+rising-set us cells r v h =
+    let same : (i : ℕ) → i < r → getD (set cells r v) i 0 ≡ getD cells i 0 = λ i l. getD-set-other cells r i v 0 (λ q. omega arith) in
+    ap₂ _&&_ (rising-ext us (set cells r v) cells r same)
+    (ap₂ leb (largest-ext us (set cells r v) cells r same) (getD-set-same cells r v 0 h))
+
+-- rising so far, and the last cell is not below the largest one unit below
+pub rising-last : (us cells : List ℕ) (r : ℕ) → rising us cells (suc r) ≡ true → (rising us cells r ≡ true) × (largestBelow us cells r ≤ getD cells r 0)
+unfolding rising
+rising-last us cells r e =
+    let both = and-eq-true-iff (rising us cells r) (leb (largestBelow us cells r) (getD cells r 0)) .0 e in
+    (both .0, leb-true _ _ (both .1))
