@@ -1,0 +1,6 @@
+pub mod FirstEntry
+pub mod Lengths
+pub mod RoundTrip
+pub mod ParsedValid
+pub mod Canonical
+pub mod Cases
