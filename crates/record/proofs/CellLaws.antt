@@ -1,0 +1,65 @@
+-- Laws of a table's cells and of what is said of them. Assumes nothing.
+use mathlib.Core.Path.{_≡_, sym, _∙_}
+use mathlib.Core.Bool.{Bool, true, false}
+use mathlib.Core.List.{List, _++_}
+use Prim.Native.Nat.{ℕ, _-_}
+use native.Mathlib.Omega.{arith}
+use lib.Dec.{leb}
+use lib.ListN.{length, drop, replicate, length-drop}
+use lib.Seq.{length-take-le}
+use Rattle.area.specs.Entries.{entries, column}
+use Rattle.grid.specs.Rows.{rising}
+use Rattle.grid.specs.Cells.{Fills}
+use Rattle.grid.proofs.FillLaws.{filled-length}
+use Rattle.contract.specs.Res.{refused, ok, test}
+use Rattle.contract.specs.Contract.{headerOf}
+use Rattle.contract.specs.Field.{Head}
+use Rattle.contract.specs.Parse.{sized}
+use Rattle.contract.specs.Table.{Layout, Grid, part, unitsOf, cellsOf, tableContract, tableEnd}
+use Rattle.contract.specs.declared.Form.the-variants.{Table}
+use Rattle.record.specs.Promise.{acceptance}
+use Rattle.record.specs.TableView.{Items}
+use Rattle.record.specs.declared.Reply.{Reply}
+use Rattle.record.proofs.TableLaws.{column-bytes}
+
+pub cells-length : (s : List ℕ) (t : Layout) (g : Grid) → length (cellsOf s t g) ≡ t .rows
+unfolding cellsOf
+cells-length s t g = filled-length _ _ _ (t .rows)
+
+-- what filling a grid's cells left, and whether they rise
+pub record CellsRead (s : List ℕ) (t : Layout) (g : Grid) (b : Bool) (cells : List ℕ) : Type 0 where
+  pub cells-are : cells ≡ cellsOf s t g
+  pub rises-is : rising (unitsOf s t) (cellsOf s t g) (t .rows) ≡ b
+
+pub cells-read : {s us before cells : List ℕ} {b : Bool} (t : Layout) (g : Grid) → us ≡ unitsOf s t → length before ≡ t .rows
+    → Fills us (part (g .map) (g .cells) s) (entries 4 (part (g .cells) (g .end) s)) before b cells → CellsRead s t g b cells
+unfolding cellsOf
+cells-read {s} {us} {before} {cells} {b} t g e l f =
+    let c : cells ≡ cellsOf s t g = f .cells-are ∙ rw (e, l) in
+    record { cells-are = c; rises-is = sym (f .rises-is ∙ rw (c, e, cells-length s t g)) }
+
+-- what is said of cells that fall, and of those that rise
+pub said-costs-fall : (s : List ℕ) (h : Head) (t : Layout) → rising (unitsOf s t) (cellsOf s t (t .costs)) (t .rows) ≡ false → tableEnd s h t ≡ refused 6
+unfolding tableEnd
+said-costs-fall s h t e = simp e
+
+pub said-values-fall : (s : List ℕ) (h : Head) (t : Layout) → rising (unitsOf s t) (cellsOf s t (t .costs)) (t .rows) ≡ true
+    → rising (unitsOf s t) (cellsOf s t (t .values)) (t .rows) ≡ false → tableEnd s h t ≡ refused 6
+unfolding tableEnd
+said-values-fall s h t e f = simp (e, f)
+
+pub said-cells : (s : List ℕ) (h : Head) (t : Layout) (a b : ℕ) → rising (unitsOf s t) (cellsOf s t (t .costs)) (t .rows) ≡ true
+    → rising (unitsOf s t) (cellsOf s t (t .values)) (t .rows) ≡ true
+    → sized (tableEnd s h t) a b ≡ test 8 (leb (t .rows) a) (test 8 (leb (t .rows) b) (ok (tableContract s h t)))
+unfolding sized tableEnd tableContract
+said-cells s h t a b e f = simp (e, f, cells-length)
+
+-- the header of a table's contract
+pub table-header : {s us : List ℕ} (h : Head) (t : Layout) → Items s (t .units) (t .unitsEnd) → h .form ≡ Table
+    → us ≡ column 1 s (t .units) 1 (t .unitsEnd - t .units) ++ replicate (8 - (t .unitsEnd - t .units)) 0
+    → acceptance h (t .unitsEnd - t .units) us ≡ record { reply = Reply.Accepted; header = headerOf (tableContract s h t) }
+unfolding tableContract
+table-header {s} {us} h t p e q =
+    let n : ℕ = t .unitsEnd - t .units in
+    let l : length (part (t .units) (t .unitsEnd) s) ≡ n = length-take-le n (drop (t .units) s) (simp length-drop (omega (arith, p .begin, p .within))) in
+    rw (e, l, q, column-bytes s (t .units) n (omega (arith, p .begin, p .within)))

@@ -1,0 +1,117 @@
+-- Laws of the writer's tests, item by item and amount by amount. Assumes nothing.
+use mathlib.Core.Path.{_≡_, refl, _∙_}
+use mathlib.Core.Bool.{Bool, true, false, cond, _&&_, and-false, and-eq-true-iff}
+use mathlib.Core.List.{List, [], _∷_}
+use Prim.Native.Nat.{ℕ, zero, suc, _+_, _*_, _^_, _≤_, _<_}
+use native.Mathlib.Nat.{le-mul-of-pos-right, mul-comm, mul-le-mul-right}
+use native.Mathlib.Numerals.{add-one}
+use native.Mathlib.Omega.{arith}
+use borrow.Author.Tests.{lt-ltb, le-leb, lt-leb, leb-true, ltb-true}
+use lib.Dec.{ltb, leb}
+use lib.ListN.{length, getD, drop, replicate, length-replicate, drop-of-length-le}
+use lib.Seq.{drop-cons}
+use Rattle.contract.specs.Contract.{limit}
+use Rattle.contract.specs.Table.{allWithin}
+use Rattle.contract.specs.Valid.{unitsInRange, sum, total, amountsWithin}
+use Rattle.contract.specs.declared.Form.the-variants.{Ladder, UnitPrices}
+use Rattle.record.specs.WriteView.{each}
+use Rattle.record.proofs.PutLaws.{each-length, each-at, each-none, each-stated, each-past}
+
+-- ---- item by item
+
+module _ (us : List ℕ) (i : ℕ) (h : i < length us) where
+  range-cons : unitsInRange (drop i us) ≡ (ltb 0 (getD us i 0) && leb (getD us i 0) 255 && unitsInRange (drop (i + 1) us))
+  unfolding unitsInRange
+  range-cons = rw (add-one, drop-cons us i 0 h)
+
+  pub range-none : getD us i 0 ≡ 0 → unitsInRange (drop i us) ≡ false
+  range-none e = range-cons ∙ rw e
+
+  pub range-over : 255 < getD us i 0 → unitsInRange (drop i us) ≡ false
+  range-over l = range-cons ∙ simp (lt-leb (getD us i 0) 255 l, and-false)
+
+  pub range-turn : (getD us i 0 ≡ 0 → ⊥) → getD us i 0 ≤ 255 → unitsInRange (drop i us) ≡ unitsInRange (drop (i + 1) us)
+  range-turn n l = range-cons ∙ rw (lt-ltb 0 (getD us i 0) (omega arith), le-leb (getD us i 0) 255 l)
+
+  pub sum-turn : sum (drop i us) ≡ getD us i 0 + sum (drop (i + 1) us)
+  unfolding sum
+  sum-turn = rw (add-one, drop-cons us i 0 h)
+
+  within-cons : allWithin (drop i us) ≡ (leb (getD us i 0) limit && allWithin (drop (i + 1) us))
+  unfolding allWithin
+  within-cons = rw (add-one, drop-cons us i 0 h)
+
+  pub within-over : limit < getD us i 0 → allWithin (drop i us) ≡ false
+  within-over l = within-cons ∙ rw (lt-leb (getD us i 0) limit l)
+
+  pub within-turn : getD us i 0 ≤ limit → allWithin (drop i us) ≡ allWithin (drop (i + 1) us)
+  within-turn l = within-cons ∙ rw (le-leb (getD us i 0) limit l)
+
+module _ (us : List ℕ) (i : ℕ) (h : length us ≤ i) where
+  pub range-end : unitsInRange (drop i us) ≡ true
+  unfolding unitsInRange
+  range-end = rw (drop-of-length-le us {i = i} h)
+
+  pub sum-end : sum (drop i us) ≡ 0
+  unfolding sum
+  sum-end = rw (drop-of-length-le us {i = i} h)
+
+  pub within-end : allWithin (drop i us) ≡ true
+  unfolding allWithin
+  within-end = rw (drop-of-length-le us {i = i} h)
+
+-- a count out of range at 0 needs no test of its own
+pub none-or-some : (n : ℕ) → n ≡ cond (ltb 0 n) n 0
+none-or-some zero = refl
+none-or-some (suc n) = rw (lt-ltb 0 (suc n) (omega arith))
+
+-- ---- the total
+
+pub product-lt : (u v : ℕ) → u < 2 ^ 16 → v < 2 ^ 32 → u * v < 2 ^ 48
+product-lt u v a b =
+    let less : u * v ≤ 65535 * v = mul-le-mul-right v (omega arith) in
+    omega arith
+
+-- the total of the amounts from amount i on
+abbrev pub totalFrom : List ℕ → List ℕ → ℕ → ℕ
+totalFrom us amounts i = total (drop i (each us (length amounts))) (drop i amounts)
+
+pub total-turn : (us amounts : List ℕ) (i : ℕ) → i < length amounts → totalFrom us amounts i ≡ getD us i 1 * getD amounts i 0 + totalFrom us amounts (i + 1)
+unfolding total
+total-turn us amounts i h =
+    let l : i < length (each us (length amounts)) = rw each-length h in
+    rw (add-one, drop-cons (each us (length amounts)) i 0 l, drop-cons amounts i 0 h, each-at us (length amounts) i h)
+
+pub total-end : (us amounts : List ℕ) (i : ℕ) → length amounts ≤ i → totalFrom us amounts i ≡ 0
+unfolding total
+total-end us amounts i h = rw (each-past us (length amounts) i h)
+
+-- an amount over the limit lifts the total over it, since each item has a unit
+total-covers : (us amounts : List ℕ) → unitsInRange us ≡ true → length us ≡ length amounts → total us amounts ≤ limit → allWithin amounts ≡ true
+unfolding unitsInRange total allWithin
+total-covers us [] e l h = refl
+total-covers [] (a ∷ amounts) e l h = absurd (omega arith)
+total-covers (u ∷ us) (a ∷ amounts) e l h =
+    let ((pos, _), more) = simp and-eq-true-iff at e in
+    let first : a ≤ u * a = rw mul-comm (le-mul-of-pos-right a (ltb-true 0 u pos)) in
+    rw (le-leb a limit (omega arith)) (total-covers us amounts more (omega arith) (omega arith))
+
+total-alone : (us amounts : List ℕ) → unitsInRange us ≡ true → length us ≡ length amounts → (allWithin amounts && leb (total us amounts) limit) ≡ leb (total us amounts) limit
+total-alone us amounts e l = go (leb (total us amounts) limit) refl
+  where
+    go : (t : Bool) → leb (total us amounts) limit ≡ t → (allWithin amounts && t) ≡ t
+    go true h = rw (total-covers us amounts e l (leb-true _ _ h))
+    go false h = and-false (allWithin amounts)
+
+ones-in-range : (n : ℕ) → unitsInRange (replicate n 1) ≡ true
+unfolding unitsInRange
+ones-in-range zero = refl
+ones-in-range (suc n) = ones-in-range n
+
+pub ladder-within : (us amounts : List ℕ) → us ≡ [] → amountsWithin Ladder us amounts ≡ leb (total (each us (length amounts)) amounts) limit
+unfolding amountsWithin
+ladder-within us amounts e = rw (e, each-none) (total-alone (replicate (length amounts) 1) amounts (ones-in-range (length amounts)) (length-replicate (length amounts) 1))
+
+pub prices-within : (us amounts : List ℕ) → unitsInRange us ≡ true → length us ≡ length amounts → amountsWithin UnitPrices us amounts ≡ leb (total (each us (length amounts)) amounts) limit
+unfolding amountsWithin
+prices-within us amounts e l = rw (← l, each-stated) (total-alone us amounts e l)

@@ -1,0 +1,152 @@
+use mathlib.Core.Path.{sym, _∙_}
+use Prim.Native.Nat.{_+_, _*_, _≤_, _<_}
+use native.Mathlib.Omega.{arith}
+use borrow.Author.Tests.{le-leb, lt-leb, eq-eqb, ne-eqb}
+use denote.Ref.{now}
+use lib.ListN.{length}
+use Rattle.grid.specs.Map.{mapSize, bitCount}
+use Rattle.contract.specs.Table.{gridAt, part}
+use borrow.Author.Needs.{needs}
+use Rattle.record.proofs.table.grid_at.Statement.{statement}
+use Rattle.record.proofs.table.grid_at.Tie as tie
+
+add-b : tie.Need-add-b
+add-b c = search needs
+
+returns : tie.Need-returns
+unfolding gridAt
+returns c = record { meets = simp (lt-leb (c .before .before .args .map + mapSize (c .before .before .args .rows)) (length (now (c .before .before .args .s))) (omega arith)); within = tt }
+
+sub-if2 : tie.Need-sub-if2
+sub-if2 c = search needs
+
+returns-2 : tie.Need-returns-2
+unfolding gridAt
+returns-2 c = record { meets = simp (lt-leb (c .before .before .before .args .map + mapSize (c .before .before .before .args .rows)) (length (now (c .before .before .before .args .s))) (omega arith)); within = tt }
+
+add-cells : tie.Need-add-cells
+add-cells c = search needs
+
+sub-bits-from : tie.Need-sub-bits-from
+sub-bits-from c = search needs
+
+part-bits-from-start : tie.Need-part-bits-from-start
+part-bits-from-start c = search needs
+
+part-bits-from-end : tie.Need-part-bits-from-end
+part-bits-from-end c = search needs
+
+bits-from-requires : tie.Need-bits-from-requires
+bits-from-requires c κs = search needs
+
+returns-3 : tie.Need-returns-3
+unfolding gridAt
+returns-3 c =
+    record {
+      meets = simp (le-leb (c .before .before .before .before .before .before .args .map + mapSize (c .before .before .before .before .before .before .args .rows)) (length (now (c .before .before .before .before .before .before .args .s))) (omega arith), ne-eqb _ _ (λ q. c .if3 .taken (c .before .bits-from .ensures ∙ q)));
+      within = tt;
+    }
+
+sub-ones : tie.Need-sub-ones
+sub-ones c = search needs
+
+part-ones-start : tie.Need-part-ones-start
+part-ones-start c = search needs
+
+part-ones-end : tie.Need-part-ones-end
+part-ones-end c = search needs
+
+ones-requires : tie.Need-ones-requires
+ones-requires c κs = search needs
+
+sub-if4 : tie.Need-sub-if4
+sub-if4 c = search needs
+
+mul-if4 : tie.Need-mul-if4
+mul-if4 c = omega (arith, c .ones .ensures .1)
+
+returns-4 : tie.Need-returns-4
+unfolding gridAt
+returns-4 c =
+    let i = c .before .before .before .before .before .before .before .before .before .args .map + mapSize (c .before .before .before .before .before .before .before .before .before .args .rows) in
+    let s = now (c .before .before .before .before .before .before .before .before .before .args .s) in
+    let h : length s < i + 4 * c .before .ones .result = omega arith in
+    let over : length s < i + 4 * bitCount (part (c .before .before .before .before .before .before .before .before .before .args .map) i s) = rw (c .before .ones .ensures .0) at h in
+    record {
+      meets = simp (le-leb i (length s) (omega arith), eq-eqb _ _ (sym (c .before .before .before .before .bits-from .ensures) ∙ c .before .before .before .if3 .left), lt-leb _ _ over);
+      within = tt;
+    }
+
+mul-end : tie.Need-mul-end
+mul-end c = search needs
+
+add-end : tie.Need-add-end
+add-end c = search needs
+
+sub-all-within : tie.Need-sub-all-within
+sub-all-within c = search needs
+
+part-all-within-start : tie.Need-part-all-within-start
+part-all-within-start c = search needs
+
+part-all-within-end : tie.Need-part-all-within-end
+part-all-within-end c = search needs
+
+all-within-requires : tie.Need-all-within-requires
+all-within-requires c κs = search needs
+
+returns-5 : tie.Need-returns-5
+unfolding gridAt
+returns-5 c =
+    let i = c .before .before .before .before .before .before .before .before .before .before .before .before .args .map + mapSize (c .before .before .before .before .before .before .before .before .before .before .before .before .args .rows) in
+    let s = now (c .before .before .before .before .before .before .before .before .before .before .before .before .args .s) in
+    let e = c .before .before .before .before .ones .ensures .0 in
+    let h : i + 4 * c .before .before .before .before .ones .result ≤ length s = omega arith in
+    let room : i + 4 * bitCount (part (c .before .before .before .before .before .before .before .before .before .before .before .before .args .map) i s) ≤ length s = rw e at h in
+    record {
+      meets = rw e (simp (le-leb i (length s) (omega arith), eq-eqb _ _ (sym (c .before .before .before .before .before .before .before .bits-from .ensures) ∙ c .before .before .before .before .before .before .if3 .left), le-leb _ _ room, sym (rw e at (c .before .all-within .ensures)) ∙ c .if5 .taken));
+      within = record { map-end = omega arith; cells-end = omega arith; within = omega arith };
+    }
+
+returns-6 : tie.Need-returns-6
+unfolding gridAt
+returns-6 c =
+    let i = c .before .before .before .before .before .before .before .before .before .before .before .before .args .map + mapSize (c .before .before .before .before .before .before .before .before .before .before .before .before .args .rows) in
+    let s = now (c .before .before .before .before .before .before .before .before .before .before .before .before .args .s) in
+    let e = c .before .before .before .before .ones .ensures .0 in
+    let h : i + 4 * c .before .before .before .before .ones .result ≤ length s = omega arith in
+    let room : i + 4 * bitCount (part (c .before .before .before .before .before .before .before .before .before .before .before .before .args .map) i s) ≤ length s = rw e at h in
+    record {
+      meets = simp (le-leb i (length s) (omega arith), eq-eqb _ _ (sym (c .before .before .before .before .before .before .before .bits-from .ensures) ∙ c .before .before .before .before .before .before .if3 .left), le-leb _ _ room, sym (rw e at (c .before .all-within .ensures)) ∙ c .if5 .left);
+      within = tt;
+    }
+
+pub grid-at-spec : {M : Type 1} → statement M
+grid-at-spec =
+    tie.close
+    (tie.spec
+    add-b
+    returns
+    sub-if2
+    returns-2
+    add-cells
+    sub-bits-from
+    part-bits-from-start
+    part-bits-from-end
+    bits-from-requires
+    returns-3
+    sub-ones
+    part-ones-start
+    part-ones-end
+    ones-requires
+    sub-if4
+    mul-if4
+    returns-4
+    mul-end
+    add-end
+    sub-all-within
+    part-all-within-start
+    part-all-within-end
+    all-within-requires
+    returns-5
+    returns-6)

@@ -1,0 +1,106 @@
+-- What the code's table stands for.
+use mathlib.Core.Path.{_≡_}
+use mathlib.Core.Bool.{Bool}
+use mathlib.Core.List.{List}
+use Prim.Native.Nat.{ℕ, _+_, _≤_}
+use lib.ListN.{length}
+use Rattle.area.specs.Entries.{entries}
+use Rattle.grid.specs.Rows.{rowsOf}
+use Rattle.grid.specs.Cells.{Fills}
+use Rattle.contract.specs.Res.{Res, refused, ok}
+use Rattle.contract.specs.Contract.{numberOf}
+use Rattle.contract.specs.Field.{Head}
+use Rattle.contract.specs.Table as table
+use Rattle.contract.specs.Table.{part, unitsAt, gridAt, unitsOf}
+use Rattle.contract.specs.declared.Form.the-variants.{Table}
+use Rattle.record.specs.HeadView.{ReadHead}
+use Rattle.record.specs.declared.table.Index.{Index}
+use Rattle.record.specs.declared.table.Grid.{Grid}
+use Rattle.record.specs.declared.table.GridReply.{GridReply}
+use Rattle.record.specs.declared.table.Layout.{Layout}
+use Rattle.record.specs.declared.table.LayoutReply.{LayoutReply}
+
+-- the number of a refusal, or the index
+abbrev pub viewIndex : Index → Res ℕ
+viewIndex (Index.Refused e) = refused (numberOf e)
+viewIndex (Index.At i) = ok i
+
+-- the index reached is e, within the record
+abbrev pub Passed : List ℕ → ℕ → Res ℕ → Type 0
+Passed s e (refused n) = Unit {0}
+Passed s e (ok i) = (i ≡ e) × (i ≤ length s)
+
+-- what reading n units fields gives
+pub record Units (s : List ℕ) (n i : ℕ) (r : Index) : Type 0 where
+  pub meets : viewIndex r ≡ unitsAt s n i
+  pub passed : Passed s (i + n) (viewIndex r)
+
+-- the grid that the code's struct holds
+abbrev pub gridOf : Grid → table.Grid
+gridOf g = record { map = g .map; cells = g .cells; end = g .end }
+
+-- the number of a refusal, or the grid
+abbrev pub viewGrid : GridReply → Res table.Grid
+viewGrid (GridReply.Refused e) = refused (numberOf e)
+viewGrid (GridReply.Got g) = ok (gridOf g)
+
+-- a row map and its cells lie one after the other within the record
+pub record Within (s : List ℕ) (g : table.Grid) : Type 0 where
+  pub map-end : g .map ≤ g .cells
+  pub cells-end : g .cells ≤ g .end
+  pub within : g .end ≤ length s
+
+-- a grid that was found lies within the record
+abbrev pub WithinIn : List ℕ → Res table.Grid → Type 0
+WithinIn s (refused n) = Unit {0}
+WithinIn s (ok g) = Within s g
+
+-- what reading a grid gives
+pub record Grids (s : List ℕ) (rows m : ℕ) (r : GridReply) : Type 0 where
+  pub meets : viewGrid r ≡ gridAt s rows m
+  pub within : WithinIn s (viewGrid r)
+
+-- the layout that the code's struct holds
+abbrev pub layoutOf : Layout → table.Layout
+layoutOf t =
+    record { units = t .units; unitsEnd = t .after; rows = t .rows; costs = gridOf (t .costs); values = gridOf (t .values) }
+
+-- the number of a refusal, or the layout
+abbrev pub viewLayout : LayoutReply → Res table.Layout
+viewLayout (LayoutReply.Refused e) = refused (numberOf e)
+viewLayout (LayoutReply.Got t) = ok (layoutOf t)
+
+-- at most four units fields lie within the record
+pub record Items (s : List ℕ) (first after : ℕ) : Type 0 where
+  pub begin : first ≤ after
+  pub few : after ≤ first + 4
+  pub within : after ≤ length s
+
+-- the parts of a table lie within the record; at most 128 rows
+pub record Laid (s : List ℕ) (t : table.Layout) : Type 0 where
+  pub items : Items s (t .units) (t .unitsEnd)
+  pub rows-are : t .rows ≡ rowsOf (unitsOf s t)
+  pub rows-le : t .rows ≤ 128
+  pub costs-in : Within s (t .costs)
+  pub values-in : Within s (t .values)
+
+-- a layout that was found lies within the record
+abbrev pub LaidIn : List ℕ → Res table.Layout → Type 0
+LaidIn s (refused n) = Unit {0}
+LaidIn s (ok t) = Laid s t
+
+-- what finding a table's parts gives
+pub record Tables (s : List ℕ) (answer : Res table.Layout) (r : LayoutReply) : Type 0 where
+  pub meets : viewLayout r ≡ answer
+  pub laid : LaidIn s (viewLayout r)
+
+-- the cells of a grid, blanks filled
+abbrev pub Filled : List ℕ → List ℕ → table.Grid → List ℕ → Bool → List ℕ → Type 0
+Filled s us g before rises after = Fills us (part (g .map) (g .cells) s) (entries 4 (part (g .cells) (g .end) s)) before rises after
+
+-- a table's head and layout, and two work areas with a cell for each row
+pub record Working (s : List ℕ) (h : Head) (t : table.Layout) (c v : List ℕ) : Type 0 where
+  pub head : ReadHead Table h
+  pub laid : Laid s t
+  pub costs-long : length c ≡ t .rows
+  pub values-long : length v ≡ t .rows

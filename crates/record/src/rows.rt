@@ -1,0 +1,66 @@
+// Units of items, row maps and cells.
+ghost use mathlib.Core.Path.{_≡_};
+ghost use mathlib.Core.List.{_++_};
+ghost use Prim.Native.Nat.{_-_, _≤_};
+ghost use lib.ListN.{length, drop, replicate};
+ghost use Rattle.area.specs.Entries.{column, entries};
+ghost use Rattle.grid.specs.Map.{bitCount};
+ghost use Rattle.contract.specs.Table.{allWithin};
+ghost use Rattle.record.specs.Spaced.{Spaced};
+use super::field::LIMIT;
+
+// The units of n items, each `step` bytes after the one before, then zeros.
+pub(crate) fn units_of(s: &[u8], at: usize, step: usize, n: usize) -> [u16; 8]
+    requires { ⌜ Spaced 1 (now s) at step n × (n ≤ 8) ⌝ }
+    ensures { λ r. ⌜ r ≡ column 1 (now (s .entry)) at step n ++ replicate (8 - n) 0 ⌝ }
+{
+    let mut units = [0u16; 8];
+    let mut k: usize = 0;
+    let mut i = at;
+    while k < n {
+        units[k] = s[i] as u16;
+        i += step;
+        k += 1;
+    }
+    units
+}
+
+// How many bits stand in a row map, counted byte by byte.
+pub(crate) fn ones(map: &[u8]) -> usize
+    requires { ⌜ length (now map) ≤ 16 ⌝ }
+    ensures { λ r. ⌜ (r ≡ bitCount (now (map .entry))) × (r ≤ 128) ⌝ }
+{
+    let mut n: usize = 0;
+    let mut i = 0;
+    while i < map.len() {
+        n += u8::count_ones(map[i]) as usize;
+        i += 1;
+    }
+    n
+}
+
+// Whether every cell is within the limit.
+pub(crate) fn all_within(cells: &[u8]) -> bool
+    ensures { λ r. ⌜ r ≡ allWithin (entries 4 (now (cells .entry))) ⌝ }
+{
+    let mut k: usize = 0;
+    while k < area::count_u32(cells) {
+        if LIMIT < area::entry_u32(cells, k) as u64 {
+            return false;
+        }
+        k += 1;
+    }
+    true
+}
+
+// Copies cells to the front of an area.
+pub(crate) fn copy(cells: &[u32], out: &mut [u32])
+    requires { ⌜ length (now cells) ≤ length (now out) ⌝ }
+    ensures { λ _. ⌜ now (out .exit) ≡ now (cells .entry) ++ drop (length (now (cells .entry))) (now (out .entry)) ⌝ }
+{
+    let mut k = 0;
+    while k < cells.len() {
+        out[k] = cells[k];
+        k += 1;
+    }
+}
