@@ -1,0 +1,73 @@
+-- The bounds, safe states and gains by defecting as orders of sums in ℕ, with no subtraction. Assumes nothing.
+use mathlib.Core.Path.{_≡_}
+use mathlib.Core.Logic.{_↔_, Iff·trans}
+use mathlib.Core.Bool.{Bool}
+use Prim.Native.Nat.{ℕ, _+_, _≤_}
+use native.Mathlib.Omega.{arith}
+use lib.IntN.{pos, subℕ}
+use lib.Signed.{_≤ℤ_}
+use Rattle.exchange.specs.Bounds.{Terms, upperOf, lowerOf, SupplierGains, BuyerGains}
+use Rattle.exchange.specs.Deal.{dealOf, Safe}
+use Rattle.exchange.proofs.Int.{pos-is, pos-sub, sub-add, sub-sub, ≤-sub, not-less}
+
+-- ---- a bound as a difference of two sums
+
+pub upper-is : (P vsL vs cs : ℕ) → upperOf P vsL vs cs ≡ subℕ (P + vs + cs) vsL
+unfolding upperOf
+upper-is P vsL vs cs = rw (pos-sub P vsL, sub-add P vsL vs, sub-add (P + vs) vsL cs)
+
+pub lower-is : (P vdL vd cd : ℕ) → lowerOf P vdL vd cd ≡ subℕ (P + vd) (vdL + cd)
+unfolding lowerOf
+lower-is P vdL vd cd = rw (pos-sub P vdL, sub-add P vdL vd, sub-sub (P + vd) vdL cd)
+
+pub high↔ : (P vsL vs cs p : ℕ) → (pos p ≤ℤ upperOf P vsL vs cs) ↔ (p + vsL ≤ P + vs + cs)
+high↔ P vsL vs cs p = rw (pos-is p, upper-is P vsL vs cs) (Iff·trans (≤-sub p 0 (P + vs + cs) vsL) (omega arith))
+
+pub low↔ : (P vdL vd cd p : ℕ) → (lowerOf P vdL vd cd ≤ℤ pos p) ↔ (P + vd ≤ p + (vdL + cd))
+low↔ P vdL vd cd p = rw (pos-is p, lower-is P vdL vd cd) (Iff·trans (≤-sub (P + vd) (vdL + cd) p 0) (omega arith))
+
+-- a bound does not fall where the cost, or the value, does not
+pub upper-rises : (P vsL cs : ℕ) {x y : ℕ} → x ≤ y → upperOf P vsL x cs ≤ℤ upperOf P vsL y cs
+upper-rises P vsL cs {x} {y} h = rw (upper-is P vsL x cs, upper-is P vsL y cs) (≤-sub (P + x + cs) vsL (P + y + cs) vsL .1 (omega arith))
+
+pub lower-rises : (P vdL cd : ℕ) {x y : ℕ} → x ≤ y → lowerOf P vdL x cd ≤ℤ lowerOf P vdL y cd
+lower-rises P vdL cd {x} {y} h = rw (lower-is P vdL x cd, lower-is P vdL y cd) (≤-sub (P + x) (vdL + cd) (P + y) (vdL + cd) .1 (omega arith))
+
+-- ---- safe states
+
+-- a safe state, with no subtraction
+pub record SafeSums (t : Terms) (x p : ℕ) : Type 0 where
+  pub low : t .price + t .value x ≤ p + (t .value (t .last) + t .buyer)
+  pub high : p + t .cost (t .last) ≤ t .price + t .cost x + t .supplier
+  pub within : p ≤ t .price
+
+module _ (t : Terms) (holds : ℕ → ℕ → Bool) (x p : ℕ) where
+  -- the one law that turns the paper's integers into sums
+  pub safe↔ : Safe (dealOf t holds) x p ↔ SafeSums t x p
+  safe↔ =
+      let low = low↔ (t .price) (t .value (t .last)) (t .value x) (t .buyer) p in
+      let high = high↔ (t .price) (t .cost (t .last)) (t .cost x) (t .supplier) p in (
+        λ s. record { low = low .0 (s .low); high = high .0 (s .high); within = s .within },
+        λ s. record { low = low .1 (s .low); high = high .1 (s .high); within = s .within },
+      )
+
+  supplier-stays : (SupplierGains t x p → ⊥) ↔ (p + t .cost (t .last) ≤ t .price + t .cost x + t .supplier)
+  unfolding SupplierGains
+  supplier-stays =
+      Iff·trans not-less
+      (rw (pos-sub p (t .cost x), sub-sub p (t .cost x) (t .supplier), pos-sub (t .price) (t .cost (t .last)))
+      (Iff·trans (≤-sub p (t .cost x + t .supplier) (t .price) (t .cost (t .last))) (omega arith)))
+
+  buyer-stays : (BuyerGains t x p → ⊥) ↔ (t .price + t .value x ≤ p + (t .value (t .last) + t .buyer))
+  unfolding BuyerGains
+  buyer-stays =
+      Iff·trans not-less
+      (rw (pos-sub (t .value x) p, sub-sub (t .value x) p (t .buyer), pos-sub (t .value (t .last)) (t .price))
+      (Iff·trans (≤-sub (t .value x) (p + t .buyer) (t .value (t .last)) (t .price)) (omega arith)))
+
+  -- "Where 0 ≤ paid ≤ P, a state is safe exactly if neither gains"
+  pub safe-neither : p ≤ t .price → Safe (dealOf t holds) x p ↔ ((SupplierGains t x p → ⊥) × (BuyerGains t x p → ⊥))
+  safe-neither w = (
+    λ s. let n = safe↔ .0 s in (supplier-stays .1 (n .high), buyer-stays .1 (n .low)),
+    λ f. safe↔ .1 (record { low = buyer-stays .0 (f .1); high = supplier-stays .0 (f .0); within = w }),
+  )

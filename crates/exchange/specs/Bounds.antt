@@ -1,0 +1,38 @@
+-- The two bounds of a place, and who gains by defecting, as the paper writes them, over the integers.
+use Prim.Native.Nat.{ℕ}
+use lib.IntN.{ℤ, pos, _+ℤ_, _-ℤ_}
+use lib.Signed.{_<ℤ_}
+
+-- the amounts of a deal: P, the supplier's and the buyer's defection costs (cs and cd), the last place L, and vs and vd, the supplier's
+-- cost and the buyer's value of a place. A place, the paper's term, is a delivery state: units delivered so far, or a row
+pub record Terms : Type 0 where
+  pub price : ℕ
+  pub supplier : ℕ
+  pub buyer : ℕ
+  pub last : ℕ
+  pub cost : ℕ → ℕ
+  pub value : ℕ → ℕ
+
+-- P − vs(L) + vs(place) + cs
+unfoldable pub upperOf : ℕ → ℕ → ℕ → ℕ → ℤ
+upperOf P vsL vs cs = pos P -ℤ pos vsL +ℤ pos vs +ℤ pos cs
+
+-- P − vd(L) + vd(place) − cd
+unfoldable pub lowerOf : ℕ → ℕ → ℕ → ℕ → ℤ
+lowerOf P vdL vd cd = pos P -ℤ pos vdL +ℤ pos vd -ℤ pos cd
+
+-- the upper bound of a place
+abbrev pub upper : Terms → ℕ → ℤ
+upper t x = upperOf (t .price) (t .cost (t .last)) (t .cost x) (t .supplier)
+
+-- the lower bound of a place
+abbrev pub lower : Terms → ℕ → ℤ
+lower t x = lowerOf (t .price) (t .value (t .last)) (t .value x) (t .buyer)
+
+-- the supplier gains by leaving at (place, paid): paid − vs(place) − cs is more than P − vs(L)
+unfoldable pub SupplierGains : Terms → ℕ → ℕ → Type 0
+SupplierGains t x p = (pos (t .price) -ℤ pos (t .cost (t .last))) <ℤ (pos p -ℤ pos (t .cost x) -ℤ pos (t .supplier))
+
+-- the buyer gains by leaving at (place, paid): vd(place) − paid − cd is more than vd(L) − P
+unfoldable pub BuyerGains : Terms → ℕ → ℕ → Type 0
+BuyerGains t x p = (pos (t .value (t .last)) -ℤ pos (t .price)) <ℤ (pos (t .value x) -ℤ pos p -ℤ pos (t .buyer))

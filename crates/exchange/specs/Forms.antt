@@ -1,0 +1,62 @@
+-- The deals of the three forms of contract: along an order of units, and over the rows of a table.
+use mathlib.Core.Path.{_≡_}
+use mathlib.Core.Bool.{Bool, true, cond, _&&_}
+use mathlib.Core.List.{List, [], _∷_}
+use Prim.Native.Nat.{ℕ, zero, suc, _+_, _-_, _/_, _%_}
+use lib.Dec.{leb, eqb}
+use lib.ListN.{length, getD}
+use Rattle.grid.specs.Rows.{rowsOf}
+use Rattle.exchange.specs.Deal.{Deal, dealOf}
+
+-- the sum of f over the first k units of an order
+unfoldable pub along : (ℕ → ℕ) → List ℕ → ℕ → ℕ
+along f [] k = 0
+along f (j ∷ σ) zero = 0
+along f (j ∷ σ) (suc k) = f j + along f σ k
+
+-- P and the two defection costs
+pub record Sides : Type 0 where
+  pub price : ℕ
+  pub supplier : ℕ
+  pub buyer : ℕ
+
+-- a deal along one order: places count units, and a later place holds the units of every earlier one
+abbrev pub line : Sides → ℕ → (ℕ → ℕ) → (ℕ → ℕ) → Deal
+line p n cost value = dealOf (record { price = p .price; supplier = p .supplier; buyer = p .buyer; last = n; cost = cost; value = value }) leb
+
+-- a ladder, by the rise of cost and the rise of value of each unit: "A ladder has its own order only"
+abbrev pub ladder : Sides → List ℕ → List ℕ → Deal
+ladder p costs values = line p (length costs) (along (λ c. c) costs) (along (λ v. v) values)
+
+-- "An order names each unit by its item; places count along it, and the cost and value of a place are the sums over its units";
+-- items are counted from 0, with the cost and the value of a unit of each
+abbrev pub inOrder : Sides → List ℕ → List ℕ → List ℕ → Deal
+inOrder p costs values σ = line p (length σ) (along (λ j. getD costs j 0) σ) (along (λ j. getD values j 0) σ)
+
+-- how often an item stands in an order
+unfoldable pub occurs : ℕ → List ℕ → ℕ
+occurs j [] = 0
+occurs j (i ∷ σ) = cond (eqb i j) 1 0 + occurs j σ
+
+-- an order of the units: every item as often as it has units, those of one item together or not
+abbrev pub Order : List ℕ → List ℕ → Type 0
+Order units σ = (j : ℕ) → occurs j σ ≡ getD units j 0
+
+-- whether row b holds at least the units of row a of every item, the last item running fastest
+unfoldable pub holdsRow : List ℕ → ℕ → ℕ → Bool
+holdsRow [] a b = true
+holdsRow (u ∷ us) a b = leb (a / rowsOf us % (u + 1)) (b / rowsOf us % (u + 1)) && holdsRow us a b
+
+-- a table, by the units of each item and the cost and the value of each row
+abbrev pub table : Sides → List ℕ → List ℕ → List ℕ → Deal
+table p units costs values =
+    dealOf
+    (record {
+      price = p .price;
+      supplier = p .supplier;
+      buyer = p .buyer;
+      last = rowsOf units - 1;
+      cost = λ r. getD costs r 0;
+      value = λ r. getD values r 0;
+    })
+    (holdsRow units)

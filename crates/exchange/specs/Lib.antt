@@ -1,0 +1,10 @@
+-- the definitions that promises rest on
+pub mod Bounds
+pub mod Deal
+pub mod Forms
+pub mod Rule
+pub mod Arrival
+pub mod Possible
+pub mod Test
+-- the working form of the theory
+pub mod Work

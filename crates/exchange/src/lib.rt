@@ -1,0 +1,77 @@
+// The bounds of a place, and the tests of a state and of a step.
+ghost use mathlib.Core.Path.{_≡_};
+ghost use Prim.Native.Nat.{_<_, _^_};
+ghost use lib.IntN.{subℕ};
+ghost use Rattle.exchange.specs.Bounds.{upperOf, lowerOf};
+ghost use Rattle.exchange.specs.Test.{safeTest, stepTest};
+
+// The bounds of a place. Either may be negative.
+pub struct Bounds {
+    pub lower: i64,
+    pub upper: i64,
+}
+
+// The difference of two sums, which may be negative. The sums are taken unsigned and subtracted once, so nothing wraps.
+fn minus(added: u64, taken: u64) -> i64
+    requires { ⌜ (added < 2 ^ 63) × (taken < 2 ^ 63) ⌝ }
+    ensures { λ r. ⌜ r ≡ subℕ added taken ⌝ }
+{
+    added as i64 - taken as i64
+}
+
+// The most that may be paid at a place.
+pub fn upper(price: u32, cost_last: u32, cost_here: u32, supplier: u32) -> i64
+    ensures { λ r. ⌜ r ≡ upperOf price «cost_last» «cost_here» supplier ⌝ }
+{
+    minus(
+        price as u64 + cost_here as u64 + supplier as u64,
+        cost_last as u64,
+    )
+}
+
+// The least that must be paid at a place.
+pub fn lower(price: u32, value_last: u32, value_here: u32, buyer: u32) -> i64
+    ensures { λ r. ⌜ r ≡ lowerOf price «value_last» «value_here» buyer ⌝ }
+{
+    minus(
+        price as u64 + value_here as u64,
+        value_last as u64 + buyer as u64,
+    )
+}
+
+// Whether the state (place, paid) is safe, by the bounds of its place.
+pub fn safe(paid: u32, at: Bounds, price: u32) -> bool
+    ensures { λ r. ⌜ r ≡ safeTest paid at price ⌝ }
+{
+    let sum = paid as i64;
+    if sum < at.lower {
+        return false;
+    }
+    if at.upper < sum {
+        return false;
+    }
+    paid <= price
+}
+
+// Whether it is a step from (a, p) to (b, q): b holds the units of a, q is not below p, and all four states are safe.
+// (b, p) tests the delivery by the payment before it, (a, q) the payment by the delivery before it.
+pub fn step(holds: bool, a: Bounds, b: Bounds, p: u32, q: u32, price: u32) -> bool
+    ensures { λ r. ⌜ r ≡ stepTest holds a b p q price ⌝ }
+{
+    if !holds {
+        return false;
+    }
+    if q < p {
+        return false;
+    }
+    if !safe(p, a, price) {
+        return false;
+    }
+    if !safe(p, b, price) {
+        return false;
+    }
+    if !safe(q, a, price) {
+        return false;
+    }
+    safe(q, b, price)
+}
