@@ -9,7 +9,8 @@ use Rattle.contract.specs.Field.{Head, headAt}
 use Rattle.contract.specs.Parse.{parse, bodyAt, sized}
 use Rattle.contract.specs.declared.Form.{Form}
 use Rattle.contract.specs.declared.Refusal.{Refusal}
-use Rattle.record.specs.Promise.{Reads, refusal, answerOf, answerTo}
+use Rattle.record.specs.Promise.{Reads, answerOf, answerTo}
+use Rattle.record.specs.View.Answer.{refusal}
 use Rattle.record.specs.declared.Reply.{Reply}
 use Rattle.record.specs.declared.Outcome.{Outcome}
 

@@ -17,8 +17,8 @@ use Rattle.contract.specs.Field.{Head}
 use Rattle.contract.specs.Parse.{sized}
 use Rattle.contract.specs.Table.{Layout, Grid, part, unitsOf, cellsOf, tableContract, tableEnd}
 use Rattle.contract.specs.declared.Form.the-variants.{Table}
-use Rattle.record.specs.Promise.{acceptance}
-use Rattle.record.specs.TableView.{Items}
+use Rattle.record.specs.View.Answer.{acceptance}
+use Rattle.record.specs.View.Table.{Items}
 use Rattle.record.specs.declared.Reply.{Reply}
 use Rattle.record.proofs.TableLaws.{column-bytes}
 

@@ -13,8 +13,8 @@ use Rattle.area.specs.Entries.{num}
 use Rattle.area.proofs.Laws.{column-none, column-fill}
 use Rattle.contract.specs.Res.{Res, refused, ok}
 use Rattle.contract.specs.Field.{field, ranged}
-use Rattle.record.specs.FieldView.{FieldRead, InRange, Ranged}
-use Rattle.record.specs.Spaced.{Spaced, Filling}
+use Rattle.record.specs.View.Field.{FieldRead, InRange, Ranged}
+use Rattle.record.specs.View.Spaced.{Spaced, Filling}
 use Rattle.record.specs.declared.field.Field.{Field}
 
 -- what a match on an answer says of what was asked

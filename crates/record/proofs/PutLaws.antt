@@ -20,7 +20,7 @@ use Rattle.contract.specs.Segments.{size}
 use Rattle.contract.specs.Serialize.{moneyBytes, segmentBytes}
 use Rattle.contract.specs.declared.Header.{Header}
 use Rattle.contract.proofs.Lengths.{segments-length, digits-all-length}
-use Rattle.record.specs.WriteView.{countSize, headBytes, each, unitsByte, Run, runBytes, Puts}
+use Rattle.record.specs.View.Write.{countSize, headBytes, each, unitsByte, Run, runBytes, Puts}
 
 -- ---- stores one after the other
 

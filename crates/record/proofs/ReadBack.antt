@@ -18,7 +18,7 @@ use Rattle.contract.specs.declared.Form.the-variants.{Ladder, UnitPrices, Table
 use Rattle.contract.specs.declared.Header.{Header}
 use Rattle.contract.proofs.RoundTrip.{round-trip}
 use Rattle.record.specs.Promise.{ReadBack, Writes}
-use Rattle.record.specs.WriteView.{Replies}
+use Rattle.record.specs.View.Write.{Replies}
 use Rattle.record.specs.declared.Written.{Written}
 
 -- a form's own count, of the units and costs that a header counts

@@ -13,9 +13,9 @@ use Rattle.contract.specs.Contract.{Contract, headerOf}
 use Rattle.contract.specs.Field.{At, Head, ranged}
 use Rattle.contract.specs.Parse.{sized}
 use Rattle.contract.specs.Segments.{Sums, from, segment, segments, segmentCount, segmentContract, segmentBody, size, skip}
-use Rattle.record.specs.Promise.{acceptance}
-use Rattle.record.specs.SegmentView.{wide, most, Found, found, paddedUnits, segmentForm}
-use Rattle.record.specs.Spaced.{Spaced}
+use Rattle.record.specs.View.Answer.{acceptance}
+use Rattle.record.specs.View.Segments.{wide, most, Found, found, paddedUnits, segmentForm}
+use Rattle.record.specs.View.Spaced.{Spaced}
 use Rattle.record.specs.declared.Reply.{Reply}
 use Rattle.record.proofs.Laws.{one-more}
 use Rattle.record.proofs.AnswerLaws.{sized-stop}

@@ -17,7 +17,7 @@ use Rattle.area.proofs.Laws.{column-length, column-zero, column-suc}
 use Rattle.grid.specs.Rows.{rowsOf}
 use Rattle.grid.proofs.RowLaws.{rows-pos}
 use Rattle.contract.specs.Table.{unitsAt, part}
-use Rattle.record.specs.TableView.{Items}
+use Rattle.record.specs.View.Table.{Items}
 use Rattle.record.proofs.Laws.{one-more}
 
 -- one units field more, one that is refused, and none left

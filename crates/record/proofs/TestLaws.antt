@@ -14,7 +14,7 @@ use Rattle.contract.specs.Contract.{limit}
 use Rattle.contract.specs.Table.{allWithin}
 use Rattle.contract.specs.Valid.{unitsInRange, sum, total, amountsWithin}
 use Rattle.contract.specs.declared.Form.the-variants.{Ladder, UnitPrices}
-use Rattle.record.specs.WriteView.{each}
+use Rattle.record.specs.View.Write.{each}
 use Rattle.record.proofs.PutLaws.{each-length, each-at, each-none, each-stated, each-past}
 
 -- ---- item by item

@@ -1,7 +1,4 @@
+-- what read and write promise
 pub mod Promise
-pub mod Spaced
-pub mod FieldView
-pub mod HeadView
-pub mod SegmentView
-pub mod TableView
-pub mod WriteView
+-- what the code's own types stand for
+pub mod View

@@ -7,9 +7,7 @@ use Rattle.contract.specs.Res.{Res, refused, ok}
 use Rattle.contract.specs.Contract.{Contract, numberOf, headerOf, contractOf}
 use Rattle.contract.specs.Parse.{parse}
 use Rattle.contract.specs.Serialize.{writing}
-use Rattle.contract.specs.Field.{Head}
 use Rattle.contract.specs.declared.Header.{Header}
-use Rattle.contract.specs.declared.Refusal.{Refusal}
 use Rattle.contract.specs.declared.Form.the-variants.{Ladder}
 use Rattle.record.specs.declared.Reply.{Reply}
 use Rattle.record.specs.declared.Outcome.{Outcome}
@@ -37,18 +35,6 @@ emptyHeader = record { price = 0; supplier = 0; buyer = 0; form = Ladder; count 
 abbrev pub answerTo : Res Contract → Answer
 answerTo (refused n) = record { number = n; header = emptyHeader }
 answerTo (ok k) = record { number = 0; header = headerOf k }
-
--- a refusal of the reader's code
-abbrev pub refusal : Refusal → Outcome
-refusal e = record { reply = Reply.Refused e; header = emptyHeader }
-
--- the answer for a contract with this head, count and units
-abbrev pub acceptance : Head → ℕ → List ℕ → Outcome
-acceptance h n us =
-    record {
-      reply = Reply.Accepted;
-      header = record { price = h .price; supplier = h .supplier; buyer = h .buyer; form = h .form; count = n; units = us };
-    }
 
 -- an area after its first entries, or bytes, were stored: what lies after the last stays; a refusal leaves all as it was
 abbrev pub stored : {A : Type 0} → (A → List ℕ) → Res A → List ℕ → List ℕ

@@ -6,7 +6,7 @@ ghost use lib.Dec.{leb};
 ghost use lib.ListN.{length};
 ghost use Rattle.grid.specs.Rows.{rowsOf};
 ghost use Rattle.contract.specs.Valid.{unitsInRange, sum, inRange};
-ghost use Rattle.record.specs.WriteView.{counted, itemsIn};
+ghost use Rattle.record.specs.View.Write.{counted, itemsIn};
 use contract::Form;
 
 // Whether each item has 1 to 255 units.

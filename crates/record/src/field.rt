@@ -2,7 +2,7 @@
 ghost use Prim.Native.Nat.{_≤_};
 ghost use Rattle.contract.specs.Contract.{limit};
 ghost use Rattle.contract.specs.Field.{money, amount};
-ghost use Rattle.record.specs.FieldView.{FieldRead, InRange, Money, Adds};
+ghost use Rattle.record.specs.View.Field.{FieldRead, InRange, Money, Adds};
 use contract::Refusal;
 
 pub(crate) const LIMIT: u64 = 1_000_000_000;

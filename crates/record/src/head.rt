@@ -1,7 +1,7 @@
 // The map and the three amounts.
 ghost use mathlib.Core.Path.{_≡_};
 ghost use Rattle.contract.specs.Field.{formOf, amounts, headAt};
-ghost use Rattle.record.specs.HeadView.{viewForm, Heads};
+ghost use Rattle.record.specs.View.Head.{viewForm, Heads};
 use super::field::Field;
 use super::field::half;
 use super::field::money;

@@ -2,8 +2,9 @@
 ghost use mathlib.Core.Path.{_≡_};
 ghost use lib.ListN.{length};
 ghost use Rattle.contract.specs.Parse.{reading};
-ghost use Rattle.record.specs.Promise.{Reads, refusal, acceptance, Writes};
-ghost use Rattle.record.specs.HeadView.{headOf, Small};
+ghost use Rattle.record.specs.Promise.{Reads, Writes};
+ghost use Rattle.record.specs.View.Answer.{refusal, acceptance};
+ghost use Rattle.record.specs.View.Head.{headOf, Small};
 ghost use Prim.Native.Nat.{_≤_};
 
 mod counts;

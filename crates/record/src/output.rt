@@ -8,7 +8,7 @@ ghost use lib.ListN.{length};
 ghost use Rattle.area.specs.Entries.{digits};
 ghost use Rattle.grid.specs.Map.{bitCount, stands, standingCells};
 ghost use Rattle.contract.specs.Serialize.{formBits, mapOf, moneyBytes};
-ghost use Rattle.record.specs.WriteView.{contractWith, countSize, headBytes, unitsByte, Run, runBytes, gridWith, Puts};
+ghost use Rattle.record.specs.View.Write.{contractWith, countSize, headBytes, unitsByte, Run, runBytes, gridWith, Puts};
 use super::rows::ones;
 use contract::Form;
 use contract::Header;

@@ -6,7 +6,7 @@ ghost use lib.ListN.{length, drop, replicate};
 ghost use Rattle.area.specs.Entries.{column, entries};
 ghost use Rattle.grid.specs.Map.{bitCount};
 ghost use Rattle.contract.specs.Table.{allWithin};
-ghost use Rattle.record.specs.Spaced.{Spaced};
+ghost use Rattle.record.specs.View.Spaced.{Spaced};
 use super::field::LIMIT;
 
 // The units of n items, each `step` bytes after the one before, then zeros.

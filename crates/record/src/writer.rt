@@ -6,7 +6,7 @@ ghost use lib.ListN.{length, getD};
 ghost use Rattle.contract.specs.Contract.{limit};
 ghost use Rattle.contract.specs.Table.{allWithin};
 ghost use Rattle.contract.specs.Valid.{total, amountsWithin, withinLimit};
-ghost use Rattle.record.specs.WriteView.{contractWith, Counted, each, Shaped, Segmented, Tabled, Mapped, Answers};
+ghost use Rattle.record.specs.View.Write.{contractWith, Counted, each, Shaped, Segmented, Tabled, Mapped, Answers};
 use super::Written;
 use super::field::LIMIT;
 use super::output::grid_len;

@@ -1,6 +1,6 @@
 use denote.Ref.{now}
 use Rattle.contract.specs.declared.Form.the-variants.{Ladder, UnitPrices, Table}
-use Rattle.record.specs.HeadView.{viewHead, headOf}
+use Rattle.record.specs.View.Head.{viewHead, headOf}
 use Rattle.record.proofs.AnswerLaws.{refuses, sized-stop, parse-form}
 use Rattle.contract.specs.Parse.{parse, reading}
 use Rattle.record.proofs.Laws.{asked}

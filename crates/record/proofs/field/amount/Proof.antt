@@ -2,7 +2,7 @@ use native.Mathlib.Nat.{mul-le-mul}
 use native.Mathlib.Omega.{arith}
 use borrow.Author.Tests.{le-leb, lt-leb}
 use Rattle.contract.specs.Field.{amount}
-use Rattle.record.specs.FieldView.{viewField}
+use Rattle.record.specs.View.Field.{viewField}
 use Rattle.record.proofs.Laws.{asked}
 use borrow.Author.Needs.{needs}
 use Rattle.record.proofs.field.amount.Statement.{statement}

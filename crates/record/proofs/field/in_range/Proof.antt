@@ -1,6 +1,6 @@
 use mathlib.Core.Path.{ap}
 use borrow.Author.Tests.{le-leb, lt-leb}
-use Rattle.record.specs.FieldView.{viewField}
+use Rattle.record.specs.View.Field.{viewField}
 use Rattle.record.proofs.Laws.{is-zero, not-zero}
 use borrow.Author.Needs.{needs}
 use Rattle.record.proofs.field.in_range.Statement.{statement}

@@ -1,7 +1,7 @@
 use borrow.Author.Tests.{le-leb, lt-leb}
 use Prim.Native.Nat.{zero-le}
 use Rattle.contract.specs.Field.{money}
-use Rattle.record.specs.FieldView.{viewField}
+use Rattle.record.specs.View.Field.{viewField}
 use Rattle.record.proofs.Laws.{asked, is-zero, not-zero}
 use borrow.Author.Needs.{needs}
 use Rattle.record.proofs.field.money.Statement.{statement}

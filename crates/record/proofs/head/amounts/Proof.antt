@@ -1,5 +1,5 @@
 use Rattle.contract.specs.Field.{amounts}
-use Rattle.record.specs.FieldView.{viewField}
+use Rattle.record.specs.View.Field.{viewField}
 use Rattle.record.proofs.Laws.{asked}
 use borrow.Author.Needs.{needs}
 use Rattle.record.proofs.head.amounts.Statement.{statement}

@@ -1,7 +1,7 @@
 use mathlib.Core.Path.{_∙_}
 use Rattle.contract.specs.Field.{headAt}
-use Rattle.record.specs.FieldView.{viewField}
-use Rattle.record.specs.HeadView.{viewForm}
+use Rattle.record.specs.View.Field.{viewField}
+use Rattle.record.specs.View.Head.{viewForm}
 use Rattle.record.proofs.Laws.{asked}
 use borrow.Author.Needs.{needs}
 use Rattle.record.proofs.head.head_at.Statement.{statement}

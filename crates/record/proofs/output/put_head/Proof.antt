@@ -1,7 +1,7 @@
 use native.Mathlib.Omega.{arith}
 use borrow.Author.Needs.{needs}
 use Rattle.area.proofs.Laws.{digits-length}
-use Rattle.record.specs.WriteView.{headBytes}
+use Rattle.record.specs.View.Write.{headBytes}
 use Rattle.record.proofs.PutLaws.{puts-then, head-length}
 use Rattle.record.proofs.output.put_head.Statement.{statement}
 use Rattle.record.proofs.output.put_head.Tie as tie

@@ -2,7 +2,7 @@ use mathlib.Core.Path.{_≡_, _∙_}
 use Prim.Native.Nat.{_+_, _-_, _*_, _≤_, zero-le}
 use lib.ListN.{getD, replicate}
 use Rattle.area.specs.Entries.{num}
-use Rattle.record.specs.Spaced.{Filling}
+use Rattle.record.specs.View.Spaced.{Filling}
 use Rattle.record.proofs.Laws.{spaced-next, filling-none, filling-more, next-index}
 use native.Mathlib.Nat.{zero-mul}
 use native.Mathlib.Omega.{arith}

@@ -1,6 +1,6 @@
 use native.Mathlib.Omega.{arith}
 use Rattle.contract.specs.Segments.{costValue}
-use Rattle.record.specs.FieldView.{viewField}
+use Rattle.record.specs.View.Field.{viewField}
 use Rattle.record.proofs.Laws.{asked}
 use borrow.Author.Needs.{needs}
 use Rattle.record.proofs.segments.cost_value.Statement.{statement}

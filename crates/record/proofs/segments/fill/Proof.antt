@@ -5,7 +5,7 @@ use native.Mathlib.Omega.{arith}
 use denote.Ref.{now}
 use Rattle.area.specs.Entries.{num}
 use Rattle.area.proofs.Laws.{numAt-room}
-use Rattle.record.specs.Spaced.{Filling}
+use Rattle.record.specs.View.Spaced.{Filling}
 use Rattle.record.proofs.Laws.{spaced-next, filling-none, filling-more, next-index}
 use Rattle.record.proofs.segments.fill.Statement.{statement}
 use Rattle.record.proofs.segments.fill.Tie as tie

@@ -2,8 +2,8 @@ use denote.Ref.{now}
 use mathlib.Core.Path.{_∙_}
 use native.Mathlib.Omega.{arith}
 use borrow.Author.Tests.{eq-eqb, ne-eqb}
-use Rattle.record.specs.FieldView.{viewField}
-use Rattle.record.specs.SegmentView.{viewStep, found}
+use Rattle.record.specs.View.Field.{viewField}
+use Rattle.record.specs.View.Segments.{viewStep, found}
 use Rattle.record.proofs.Laws.{asked}
 use Rattle.record.proofs.SegmentLaws.{count-ranged}
 use borrow.Author.Needs.{needs}

@@ -4,8 +4,8 @@ use native.Mathlib.Omega.{arith}
 use borrow.Author.Tests.{le-leb, lt-leb}
 use denote.Ref.{now}
 use Rattle.contract.specs.Segments.{segment}
-use Rattle.record.specs.FieldView.{viewField}
-use Rattle.record.specs.SegmentView.{Reached, viewStep}
+use Rattle.record.specs.View.Field.{viewField}
+use Rattle.record.specs.View.Segments.{Reached, viewStep}
 use Rattle.record.proofs.Laws.{asked, ranged-of}
 use borrow.Author.Needs.{needs}
 use Rattle.record.proofs.segments.item.Statement.{statement}

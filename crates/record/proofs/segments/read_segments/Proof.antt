@@ -6,8 +6,8 @@ use denote.Ref.{now}
 use Rattle.area.proofs.Laws.{column-length}
 use Rattle.contract.specs.Segments.{segmentContract}
 use Rattle.contract.specs.declared.Refusal.the-variants.{Short}
-use Rattle.record.specs.HeadView.{headOf}
-use Rattle.record.specs.SegmentView.{viewRun}
+use Rattle.record.specs.View.Head.{headOf}
+use Rattle.record.specs.View.Segments.{viewRun}
 use Rattle.record.proofs.Laws.{asked}
 use Rattle.record.proofs.AnswerLaws.{refuses, accepts}
 use Rattle.record.proofs.SegmentLaws.{said-stopped, said-found, spaced-segments, spaced-units, few-segments, skip-le, segment-header}

@@ -4,7 +4,7 @@ use native.Mathlib.Omega.{arith}
 use lib.ListN.{length}
 use borrow.Author.Needs.{needs}
 use Rattle.contract.specs.Segments.{segments, size}
-use Rattle.record.specs.SegmentView.{sums, Kept, viewStep}
+use Rattle.record.specs.View.Segments.{sums, Kept, viewStep}
 use Rattle.record.proofs.Laws.{asked}
 use Rattle.record.proofs.SegmentLaws.{segments-next, segments-stop, segments-end, one-less, none-left}
 use Rattle.record.proofs.segments.segments.Statement.{statement}

@@ -1,6 +1,6 @@
 use denote.Ref.{now}
 use Rattle.contract.specs.Table.{gridsAt, part}
-use Rattle.record.specs.TableView.{viewGrid}
+use Rattle.record.specs.View.Table.{viewGrid}
 use Rattle.record.proofs.Laws.{asked}
 use Rattle.record.proofs.TableLaws.{RowCount, units-front, counted, rows-none, rows-some}
 use borrow.Author.Needs.{needs}

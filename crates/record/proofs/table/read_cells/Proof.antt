@@ -4,8 +4,8 @@ use borrow.Author.Tests.{le-leb, lt-leb, not-true, not-false}
 use denote.Ref.{now}
 use Rattle.contract.specs.Table.{tableContract}
 use Rattle.contract.specs.declared.Refusal.the-variants.{Falling, Short}
-use Rattle.record.specs.HeadView.{headOf}
-use Rattle.record.specs.TableView.{gridOf, layoutOf}
+use Rattle.record.specs.View.Head.{headOf}
+use Rattle.record.specs.View.Table.{gridOf, layoutOf}
 use Rattle.record.proofs.AnswerLaws.{refuses, accepts, sized-stop}
 use Rattle.record.proofs.TableLaws.{units-front, units-read}
 use Rattle.record.proofs.CellLaws.{CellsRead, cells-length, cells-read, said-costs-fall, said-values-fall, said-cells, table-header}

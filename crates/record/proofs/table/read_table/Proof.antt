@@ -1,7 +1,7 @@
 use borrow.Author.Tests.{eq-eqb, ne-eqb}
 use Rattle.contract.specs.Table.{tableBody}
 use Rattle.contract.specs.declared.Refusal.the-variants.{Trailing}
-use Rattle.record.specs.TableView.{viewLayout}
+use Rattle.record.specs.View.Table.{viewLayout}
 use Rattle.record.proofs.Laws.{asked}
 use Rattle.record.proofs.AnswerLaws.{refuses, sized-stop}
 use borrow.Author.Needs.{needs}

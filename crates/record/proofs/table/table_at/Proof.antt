@@ -1,8 +1,8 @@
 use mathlib.Core.Path.{_∙_}
 use native.Mathlib.Omega.{arith}
 use Rattle.contract.specs.Table.{tableAt}
-use Rattle.record.specs.FieldView.{viewField}
-use Rattle.record.specs.TableView.{viewIndex}
+use Rattle.record.specs.View.Field.{viewField}
+use Rattle.record.specs.View.Table.{viewIndex}
 use Rattle.record.proofs.Laws.{asked, ranged-of}
 use borrow.Author.Needs.{needs}
 use Rattle.record.proofs.table.table_at.Statement.{statement}

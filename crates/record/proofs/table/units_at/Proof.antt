@@ -4,7 +4,7 @@ use native.Mathlib.Omega.{arith}
 use borrow.Author.Needs.{needs}
 use lib.ListN.{length}
 use Rattle.contract.specs.Table.{unitsAt}
-use Rattle.record.specs.FieldView.{viewField}
+use Rattle.record.specs.View.Field.{viewField}
 use Rattle.record.proofs.Laws.{asked, ranged-of}
 use Rattle.record.proofs.TableLaws.{units-next, units-stop, units-end}
 use Rattle.record.proofs.table.units_at.Statement.{statement}

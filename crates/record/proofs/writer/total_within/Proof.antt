@@ -7,7 +7,7 @@ use borrow.Author.Tests.{le-leb, lt-leb}
 use lib.ListN.{length}
 use Rattle.contract.specs.Contract.{limit}
 use Rattle.contract.specs.Valid.{total}
-use Rattle.record.specs.WriteView.{each}
+use Rattle.record.specs.View.Write.{each}
 use Rattle.record.proofs.TestLaws.{totalFrom, total-turn, total-end}
 use Rattle.record.proofs.writer.total_within.Statement.{statement}
 use Rattle.record.proofs.writer.total_within.Tie as tie

@@ -13,7 +13,7 @@ use Rattle.contract.specs.Field.{Head}
 use Rattle.contract.specs.Table as table
 use Rattle.contract.specs.Table.{part, unitsAt, gridAt, unitsOf}
 use Rattle.contract.specs.declared.Form.the-variants.{Table}
-use Rattle.record.specs.HeadView.{ReadHead}
+use Rattle.record.specs.View.Head.{ReadHead}
 use Rattle.record.specs.declared.table.Index.{Index}
 use Rattle.record.specs.declared.table.Grid.{Grid}
 use Rattle.record.specs.declared.table.GridReply.{GridReply}
