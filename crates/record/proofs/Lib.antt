@@ -7,5 +7,6 @@ pub mod CellLaws
 -- the writer; the laws of amounts within the limit serve both
 pub mod PutLaws
 pub mod TestLaws
+pub mod CountLaws
 pub mod WriteLaws
 pub mod ReadBack

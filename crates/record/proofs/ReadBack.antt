@@ -1,6 +1,6 @@
 -- What is written of a header and two areas reads back. Assumes nothing.
 use mathlib.Core.Path.{_≡_, refl, ap}
-use mathlib.Core.Bool.{Bool, true, false, and-eq-true-iff}
+use mathlib.Core.Bool.{Bool, true, false}
 use mathlib.Core.List.{List}
 use Prim.Native.Nat.{ℕ, _≤_}
 use native.Mathlib.Omega.{arith}
@@ -20,18 +20,14 @@ use Rattle.contract.proofs.RoundTrip.{round-trip}
 use Rattle.record.specs.Promise.{ReadBack, Writes}
 use Rattle.record.specs.View.Write.{Replies}
 use Rattle.record.specs.declared.Written.{Written}
+use Rattle.record.proofs.CountLaws.{items-length}
 
 -- a form's own count, of the units and costs that a header counts
 count-is : (f : Form) (n : ℕ) (us cs : List ℕ) → length us ≡ 8 → inRange f n (unitsIn f n us) ≡ true → entriesIn f n us ≤ length cs
     → countOf f (unitsIn f n us) (take (entriesIn f n us) cs) ≡ n
-unfolding inRange
 count-is Ladder n us cs e r h = length-take-le n cs h
-count-is UnitPrices n us cs e r h =
-    let (((_, most), _), _) = simp and-eq-true-iff at r in
-    length-take-le n us (omega (arith, leb-true n 8 most))
-count-is Table n us cs e r h =
-    let (((_, most), _), _) = simp and-eq-true-iff at r in
-    length-take-le n us (omega (arith, leb-true n 4 most))
+count-is UnitPrices n us cs e r h = items-length UnitPrices n us e r
+count-is Table n us cs e r h = items-length Table n us e r
 
 units-again : (f : Form) (n : ℕ) (us : List ℕ) → unitsIn f n (unitsIn f n us) ≡ unitsIn f n us
 units-again Ladder n us = refl

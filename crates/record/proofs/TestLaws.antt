@@ -1,12 +1,12 @@
 -- Laws of the writer's tests, item by item and amount by amount. Assumes nothing.
 use mathlib.Core.Path.{_≡_, refl, _∙_}
-use mathlib.Core.Bool.{Bool, true, false, cond, _&&_, and-false, and-eq-true-iff}
+use mathlib.Core.Bool.{Bool, true, false, _&&_, and-false}
 use mathlib.Core.List.{List, [], _∷_}
 use Prim.Native.Nat.{ℕ, zero, suc, _+_, _*_, _^_, _≤_, _<_}
 use native.Mathlib.Nat.{le-mul-of-pos-right, mul-comm, mul-le-mul-right}
 use native.Mathlib.Numerals.{add-one}
 use native.Mathlib.Omega.{arith}
-use borrow.Author.Tests.{lt-ltb, le-leb, lt-leb, leb-true, ltb-true}
+use borrow.Author.Tests.{lt-ltb, le-leb, lt-leb, leb-true}
 use lib.Dec.{ltb, leb}
 use lib.ListN.{length, getD, drop, replicate, length-replicate, drop-of-length-le}
 use lib.Seq.{drop-cons}
@@ -14,6 +14,7 @@ use Rattle.contract.specs.Contract.{limit}
 use Rattle.contract.specs.Table.{allWithin}
 use Rattle.contract.specs.Valid.{unitsInRange, sum, total, amountsWithin}
 use Rattle.contract.specs.declared.Form.the-variants.{Ladder, UnitPrices}
+use Rattle.contract.proofs.FirstEntry.{units-first}
 use Rattle.record.specs.View.Write.{each}
 use Rattle.record.proofs.PutLaws.{each-length, each-at, each-none, each-stated, each-past}
 
@@ -60,11 +61,6 @@ module _ (us : List ℕ) (i : ℕ) (h : length us ≤ i) where
   unfolding allWithin
   within-end = rw (drop-of-length-le us {i = i} h)
 
--- a count out of range at 0 needs no test of its own
-pub none-or-some : (n : ℕ) → n ≡ cond (ltb 0 n) n 0
-none-or-some zero = refl
-none-or-some (suc n) = rw (lt-ltb 0 (suc n) (omega arith))
-
 -- ---- the total
 
 pub product-lt : (u v : ℕ) → u < 2 ^ 16 → v < 2 ^ 32 → u * v < 2 ^ 48
@@ -88,12 +84,12 @@ total-end us amounts i h = rw (each-past us (length amounts) i h)
 
 -- an amount over the limit lifts the total over it, since each item has a unit
 total-covers : (us amounts : List ℕ) → unitsInRange us ≡ true → length us ≡ length amounts → total us amounts ≤ limit → allWithin amounts ≡ true
-unfolding unitsInRange total allWithin
+unfolding total allWithin
 total-covers us [] e l h = refl
 total-covers [] (a ∷ amounts) e l h = absurd (omega arith)
 total-covers (u ∷ us) (a ∷ amounts) e l h =
-    let ((pos, _), more) = simp and-eq-true-iff at e in
-    let first : a ≤ u * a = rw mul-comm (le-mul-of-pos-right a (ltb-true 0 u pos)) in
+    let (low, _, more) = units-first u us e in
+    let first : a ≤ u * a = rw mul-comm (le-mul-of-pos-right a low) in
     rw (le-leb a limit (omega arith)) (total-covers us amounts more (omega arith) (omega arith))
 
 total-alone : (us amounts : List ℕ) → unitsInRange us ≡ true → length us ≡ length amounts → (allWithin amounts && leb (total us amounts) limit) ≡ leb (total us amounts) limit

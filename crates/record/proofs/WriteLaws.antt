@@ -1,24 +1,23 @@
 -- What the writer answers, test by test. Assumes nothing.
 use mathlib.Core.Path.{_≡_, refl, sym, ap, _∙_}
 use mathlib.Core.Logic.{_⊎_, inl, inr}
-use mathlib.Core.Bool.{Bool, true, false, and-true, and-false, and-eq-true-iff}
+use mathlib.Core.Bool.{true, false, and-eq-true-iff}
 use mathlib.Core.List.{List, [], _++_, flatMap, append-assoc}
 use Prim.Native.Nat.{ℕ, _+_, _*_, _≤_, _<_}
 use native.Mathlib.Nat.{zero-add}
 use native.Mathlib.Omega.{arith}
 use borrow.Author.Tests.{lt-ltb, le-leb, lt-leb, leb-true, ltb-true}
 use lib.ListN.{length, take, length-append}
-use lib.Seq.{sets-eq, length-take-le}
+use lib.Seq.{sets-eq}
 use Rattle.area.specs.Entries.{digits}
 use Rattle.grid.specs.Rows.{rowsOf, rising}
 use Rattle.grid.specs.Map.{mapSize, bitCount}
 use Rattle.grid.specs.Cells.{rowMap}
-use Rattle.grid.proofs.RowLaws.{rows-pos}
 use Rattle.grid.proofs.MarkLaws.{map-length, map-take}
 use Rattle.contract.specs.Res.{Res, refused}
-use Rattle.contract.specs.Contract.{Contract, numberOf, unitsIn, entriesIn}
+use Rattle.contract.specs.Contract.{Contract, numberOf, entriesIn}
 use Rattle.contract.specs.Valid.{inRange, withinLimit, rises}
-use Rattle.contract.specs.Serialize.{mapOf, gridBytes, bodyBytes, serialize, recordOf, writing}
+use Rattle.contract.specs.Serialize.{mapOf, gridBytes, bodyBytes, serialize, recordOf}
 use Rattle.contract.specs.declared.Form.{Form}
 use Rattle.contract.specs.declared.Form.the-variants.{Ladder, UnitPrices, Table}
 use Rattle.contract.specs.declared.Header.{Header}
@@ -28,7 +27,7 @@ use Rattle.contract.proofs.Lengths.{digits-all-length, bits-are, grid-length}
 use Rattle.record.specs.View.Write.{counted, itemsIn, contractWith, Counted, Shaped, Segmented, Tabled, headBytes, Run, runBytes, gridWith, Mapped, Puts, Replies}
 use Rattle.record.specs.declared.Written.{Written}
 use Rattle.record.proofs.PutLaws.{each-none, each-stated, run-length}
-use Rattle.record.proofs.TestLaws.{none-or-some}
+use Rattle.record.proofs.CountLaws.{items-length}
 
 -- ---- replies
 
@@ -59,6 +58,9 @@ over-limit k room e = rw e
 
 -- ---- counts in range, by the form
 
+counted-items : {h : Header} {us cs vs : List ℕ} → Counted h us cs vs → length us ≡ itemsIn (h .form) (h .count)
+counted-items {h} c = ap length (c .units-are) ∙ items-length (h .form) (h .count) (h .units) (c .eight) (rw (← c .units-are) (c .range))
+
 pub shaped : {h : Header} {us cs vs : List ℕ} (amounts : List ℕ) → Counted h us cs vs → length amounts ≡ entriesIn (h .form) (h .count) (h .units) → Shaped (h .form) us amounts
 unfolding inRange
 shaped {h} {us} amounts c l = go (h .form) refl
@@ -66,9 +68,8 @@ shaped {h} {us} amounts c l = go (h .form) refl
     go : (f : Form) → h .form ≡ f → Shaped (h .form) us amounts
     go Ladder e = rw e (rw e at (c .units-are))
     go UnitPrices e =
-        let (((_, most), units), _) = simp and-eq-true-iff at (rw e at (c .range)) in
-        let items : length us ≡ h .count = ap length (rw e at (c .units-are)) ∙ length-take-le (h .count) (h .units) (omega (arith, leb-true (h .count) 8 most, c .eight)) in
-        rw e (units, items ∙ sym (rw e at l))
+        let ((_, units), _) = simp and-eq-true-iff at (rw e at (c .range)) in
+        rw e (units, rw e at (counted-items c) ∙ sym (rw e at l))
     go Table e = rw e tt
 
 -- ---- a ladder or unit prices
@@ -143,7 +144,7 @@ laid {h} {us} {cs} t =
     let c = t .counts in
     let (((_, most), _), rows) = simp and-eq-true-iff at (rw e at (c .range)) in
     let counted : us ≡ take (h .count) (h .units) = rw e at (c .units-are) in
-    let items : length us ≡ h .count = ap length counted ∙ length-take-le (h .count) (h .units) (omega (arith, leb-true (h .count) 4 most, c .eight)) in
+    let items : length us ≡ h .count = rw e at (counted-items c) in
     let costs : length cs ≡ rowsOf us = rw counted (rw e at (c .costs-counted)) in
     record {
       same = c .values-counted ∙ sym (c .costs-counted);
@@ -200,89 +201,3 @@ module _ {h : Header} {us costMap cs valueMap vs : List ℕ} (m : Mapped h us co
   pub table-length : length (tableBytes h us costMap cs valueMap vs)
       ≡ length (headBytes h) + length us + (length costMap + 4 * bitCount costMap) + (length valueMap + 4 * bitCount valueMap)
   table-length = simp (length-append, digits-all-length, grid-size us cs costMap (m .cost-map), grid-size us vs valueMap (m .value-map)) (omega arith)
-
--- ---- the counts of a header
-
-entries-pos : (f : Form) (n : ℕ) (us : List ℕ) → inRange f n (unitsIn f n us) ≡ true → 0 < entriesIn f n us
-unfolding inRange
-entries-pos Ladder n us r = ltb-true 0 n (simp and-eq-true-iff at r .0)
-entries-pos UnitPrices n us r = ltb-true 0 n (simp and-eq-true-iff at r .0 .0 .0)
-entries-pos Table n us r = rows-pos (take n us)
-
-items-are : (f : Form) (n : ℕ) (us : List ℕ) → take (itemsIn f n) us ≡ unitsIn f n us
-items-are Ladder n us = refl
-items-are UnitPrices n us = refl
-items-are Table n us = refl
-
-pub ladder-counted : {f : Form} (n : ℕ) (us : List ℕ) → f ≡ Ladder → n ≤ 1000 → n ≡ counted f n us
-unfolding inRange
-ladder-counted n us e l = rw e (simp (le-leb n 1000 l, and-true) (none-or-some n))
-
-pub ladder-over : {f : Form} (n : ℕ) (us : List ℕ) → f ≡ Ladder → 1000 < n → 0 ≡ counted f n us
-unfolding inRange
-ladder-over n us e l = rw e (simp (lt-leb n 1000 l, and-false))
-
-pub prices-over : {f : Form} (n : ℕ) (us : List ℕ) → f ≡ UnitPrices → 8 < n → 0 ≡ counted f n us
-unfolding inRange
-prices-over n us e l = rw e (simp (lt-leb n 8 l, and-false))
-
-pub table-over : {f : Form} (n : ℕ) (us : List ℕ) → f ≡ Table → 4 < n → 0 ≡ counted f n us
-unfolding inRange
-table-over n us e l = rw e (simp (lt-leb n 4 l, and-false))
-
--- a header whose counts are in range, with n costs and n values
-pub record InRange (h : Header) (n : ℕ) : Type 0 where
-  pub range : inRange (h .form) (h .count) (unitsIn (h .form) (h .count) (h .units)) ≡ true
-  pub entries : n ≡ entriesIn (h .form) (h .count) (h .units)
-
-pub in-range : (h : Header) (n : ℕ) → n ≡ counted (h .form) (h .count) (h .units) → (n ≡ 0 → ⊥) → InRange h n
-in-range h n e some = go (inRange (h .form) (h .count) (unitsIn (h .form) (h .count) (h .units))) refl
-  where
-    go : (t : Bool) → inRange (h .form) (h .count) (unitsIn (h .form) (h .count) (h .units)) ≡ t → InRange h n
-    go true r = record { range = r; entries = rw r at e }
-    go false r = absurd (some (rw r at e))
-
-pub out-of-range : (h : Header) (cs vs : List ℕ) (room : ℕ) → counted (h .form) (h .count) (h .units) ≡ 0 → writing h cs vs room ≡ refused 5
-unfolding writing
-out-of-range h cs vs room e = go (inRange (h .form) (h .count) (unitsIn (h .form) (h .count) (h .units))) refl
-  where
-    go : (t : Bool) → inRange (h .form) (h .count) (unitsIn (h .form) (h .count) (h .units)) ≡ t → writing h cs vs room ≡ refused 5
-    go true r =
-        let none : entriesIn (h .form) (h .count) (h .units) ≡ 0 = rw r at e in
-        absurd (omega (arith, entries-pos (h .form) (h .count) (h .units) r))
-    go false r = rw r
-
-pub items-few : {h : Header} {n : ℕ} → InRange h n → length (h .units) ≡ 8 → itemsIn (h .form) (h .count) ≤ length (h .units)
-unfolding inRange
-items-few {h} r e = go (h .form) (r .range)
-  where
-    go : (f : Form) → inRange f (h .count) (unitsIn f (h .count) (h .units)) ≡ true → itemsIn f (h .count) ≤ length (h .units)
-    go Ladder t = omega arith
-    go UnitPrices t = omega (arith, leb-true (h .count) 8 (simp and-eq-true-iff at t .0 .0 .1))
-    go Table t = omega (arith, leb-true (h .count) 4 (simp and-eq-true-iff at t .0 .0 .1))
-
-module _ {h : Header} {n : ℕ} (r : InRange h n) (cs vs : List ℕ) where
-  pub costs-short : (room : ℕ) → length cs < n → writing h cs vs room ≡ refused 8
-  unfolding writing
-  costs-short room l = rw (r .range, ← r .entries, lt-leb n (length cs) l)
-
-  pub values-short : (room : ℕ) → n ≤ length cs → length vs < n → writing h cs vs room ≡ refused 8
-  unfolding writing
-  values-short room c l = rw (r .range, ← r .entries, le-leb n (length cs) c, lt-leb n (length vs) l)
-
-  module _ (c : n ≤ length cs) (v : n ≤ length vs) where
-    pub cut : length (h .units) ≡ 8 → Counted h (take (itemsIn (h .form) (h .count)) (h .units)) (take n cs) (take n vs)
-    cut e =
-        record {
-          eight = e;
-          range = rw (items-are (h .form) (h .count) (h .units)) (r .range);
-          units-are = items-are (h .form) (h .count) (h .units);
-          costs-counted = length-take-le n cs c ∙ r .entries;
-          values-counted = length-take-le n vs v ∙ r .entries;
-        }
-
-    pub writes-cut : {out out′ : List ℕ} {w : Written}
-        → Replies (recordOf (contractWith h (take (itemsIn (h .form) (h .count)) (h .units)) (take n cs) (take n vs)) (length out)) out w out′
-        → Replies (writing h cs vs (length out)) out w out′
-    unfolding writing
-    writes-cut p = rw (r .range, ← r .entries, le-leb n (length cs) c, le-leb n (length vs) v) (rw (items-are (h .form) (h .count) (h .units)) at p)

@@ -4,7 +4,8 @@ use borrow.Author.Needs.{needs}
 use lib.ListN.{length, length-map}
 use lib.Seq.{length-take-le}
 use Rattle.contract.specs.declared.Refusal.the-variants.{Range, Short}
-use Rattle.record.proofs.WriteLaws.{InRange, refuses, out-of-range, in-range, costs-short, values-short, items-few, cut, writes-cut}
+use Rattle.record.proofs.CountLaws.{InRange, in-range, out-of-range, costs-short, values-short, items-few, cut, writes-cut}
+use Rattle.record.proofs.WriteLaws.{refuses}
 use Rattle.record.proofs.ReadBack.{promised}
 use Rattle.record.proofs.write.Statement.{statement}
 use Rattle.record.proofs.write.Tie as tie

@@ -2,7 +2,8 @@ use mathlib.Core.Path.{sym}
 use native.Mathlib.Omega.{arith}
 use borrow.Author.Needs.{needs}
 use lib.Seq.{length-take-le}
-use Rattle.record.proofs.WriteLaws.{ladder-counted, ladder-over, prices-over, table-over}
+use Rattle.contract.specs.declared.Form.the-variants.{Ladder, UnitPrices, Table}
+use Rattle.record.proofs.CountLaws.{over, ladder-counted}
 use Rattle.record.proofs.counts.entry_count.Statement.{statement}
 use Rattle.record.proofs.counts.entry_count.Tie as tie
 
@@ -10,13 +11,13 @@ enum-told : tie.Need-enum-told
 enum-told c = search needs
 
 returns : tie.Need-returns
-returns c = ladder-over _ _ (c .before .enum-told .given .1) (c .if1 .taken)
+returns c = rw (c .before .enum-told .given .1) (over Ladder _ (c .before .before .before .args .t3) (c .if1 .taken))
 
 enum-told-2 : tie.Need-enum-told-2
 enum-told-2 c = search needs
 
 returns-2 : tie.Need-returns-2
-returns-2 c = prices-over _ _ (c .before .enum-told2 .given .1) (c .if2 .taken)
+returns-2 c = rw (c .before .enum-told2 .given .1) (over UnitPrices _ _ (c .if2 .taken))
 
 array-share-prefix-units : tie.Need-array-share-prefix-units
 array-share-prefix-units c = search needs
@@ -31,7 +32,7 @@ enum-told-3 : tie.Need-enum-told-3
 enum-told-3 c = search needs
 
 returns-3 : tie.Need-returns-3
-returns-3 c = table-over _ _ (c .before .enum-told3 .given .1) (c .if3 .taken)
+returns-3 c = rw (c .before .enum-told3 .given .1) (over Table _ _ (c .if3 .taken))
 
 array-share-prefix-units-2 : tie.Need-array-share-prefix-units-2
 array-share-prefix-units-2 c = search needs
@@ -43,7 +44,7 @@ table-rows-requires : tie.Need-table-rows-requires
 table-rows-requires c κs = omega (arith, length-take-le (c .before .before .before .before .args .count) (c .before .before .before .before .args .t3) (search needs))
 
 returns-4 : tie.Need-returns-4
-returns-4 c = ladder-counted _ _ (c .before .enum-told .given .1) (c .if1 .left)
+returns-4 c = rw (c .before .enum-told .given .1) (ladder-counted _ (c .before .before .before .args .t3) (c .if1 .left))
 
 returns-5 : tie.Need-returns-5
 returns-5 c = rw (c .before .before .before .enum-told2 .given .1) (rw (length-take-le (c .before .before .before .before .before .args .count) (c .before .before .before .before .before .args .t3) (search needs)) at (c .priced-items .ensures))

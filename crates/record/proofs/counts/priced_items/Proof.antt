@@ -3,7 +3,7 @@ use mathlib.Core.Bool.{and-true, and-false}
 use borrow.Author.Needs.{needs}
 use borrow.Author.Tests.{not-true, not-false, le-leb}
 use Rattle.contract.specs.Valid.{inRange}
-use Rattle.record.proofs.TestLaws.{none-or-some}
+use Rattle.record.proofs.CountLaws.{none-or-some}
 use Rattle.record.proofs.counts.priced_items.Statement.{statement}
 use Rattle.record.proofs.counts.priced_items.Tie as tie
 
