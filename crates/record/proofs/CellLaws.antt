@@ -10,21 +10,17 @@ use lib.Seq.{length-take-le}
 use Rattle.area.specs.Entries.{entries, column}
 use Rattle.grid.specs.Rows.{rising}
 use Rattle.grid.specs.Cells.{Fills}
-use Rattle.grid.proofs.FillLaws.{filled-length}
 use Rattle.contract.specs.Res.{refused, ok, test}
 use Rattle.contract.specs.Contract.{headerOf}
 use Rattle.contract.specs.Field.{Head}
 use Rattle.contract.specs.Parse.{sized}
 use Rattle.contract.specs.Table.{Layout, Grid, part, unitsOf, cellsOf, tableContract, tableEnd}
 use Rattle.contract.specs.declared.Form.the-variants.{Table}
+use Rattle.contract.proofs.ParsedValid.TableValid.{cells-length}
 use Rattle.record.specs.View.Answer.{acceptance}
 use Rattle.record.specs.View.Table.{Items}
 use Rattle.record.specs.declared.Reply.{Reply}
 use Rattle.record.proofs.TableLaws.{column-bytes}
-
-pub cells-length : (s : List ℕ) (t : Layout) (g : Grid) → length (cellsOf s t g) ≡ t .rows
-unfolding cellsOf
-cells-length s t g = filled-length _ _ _ (t .rows)
 
 -- what filling a grid's cells left, and whether they rise
 pub record CellsRead (s : List ℕ) (t : Layout) (g : Grid) (b : Bool) (cells : List ℕ) : Type 0 where

@@ -27,7 +27,7 @@ record Cells (s : List ℕ) (t : Layout) (g : Grid) : Type 0 where
   within : amountsWithin Table (unitsOf s t) (cellsOf s t g) ≡ true
   rise : rises Table (unitsOf s t) (cellsOf s t g) ≡ true
 
-cells-length : (s : List ℕ) (t : Layout) (g : Grid) → length (cellsOf s t g) ≡ t .rows
+pub cells-length : (s : List ℕ) (t : Layout) (g : Grid) → length (cellsOf s t g) ≡ t .rows
 unfolding cellsOf
 cells-length s t g = filled-length _ _ _ (t .rows)
 

@@ -3,12 +3,13 @@ use native.Mathlib.Omega.{arith}
 use borrow.Author.Tests.{le-leb, lt-leb, not-true, not-false}
 use denote.Ref.{now}
 use Rattle.contract.specs.Table.{tableContract}
+use Rattle.contract.proofs.ParsedValid.TableValid.{cells-length}
 use Rattle.contract.specs.declared.Refusal.the-variants.{Falling, Short}
 use Rattle.record.specs.View.Head.{headOf}
 use Rattle.record.specs.View.Table.{gridOf, layoutOf}
 use Rattle.record.proofs.AnswerLaws.{refuses, accepts, sized-stop}
 use Rattle.record.proofs.TableLaws.{units-front, units-read}
-use Rattle.record.proofs.CellLaws.{CellsRead, cells-length, cells-read, said-costs-fall, said-values-fall, said-cells, table-header}
+use Rattle.record.proofs.CellLaws.{CellsRead, cells-read, said-costs-fall, said-values-fall, said-cells, table-header}
 use borrow.Author.Needs.{needs}
 use Rattle.record.proofs.table.read_cells.Statement.{statement}
 use Rattle.record.proofs.table.read_cells.Tie as tie
