@@ -1,5 +1,11 @@
 -- The rule for a given order: it plans the deal wherever a plan exists, as fast as any plan, and stands still only where none exists.
 -- Assumes nothing.
+pub mod Run
+pub mod Lead
+pub mod Farthest
+pub mod Greedy
+pub mod Gaps
+pub mod RuleLaws
 use mathlib.Core.Path.{_≡_, sym, ap, _∙_}
 use mathlib.Core.Logic.{_↔_}
 use mathlib.Core.List.{List}
@@ -17,11 +23,11 @@ use Rattle.exchange.specs.Arrival.{Arrives}
 use Rattle.exchange.specs.Possible.{Possible}
 use Rattle.exchange.proofs.Int.{≤-trans}
 use Rattle.exchange.proofs.Bridge.{bridge, lawful, coins-low, coins-high, coins-rise}
-use Rattle.exchange.proofs.Run.{run, first, first-least, after-path}
-use Rattle.exchange.proofs.Lead as lead
-use Rattle.exchange.proofs.Greedy.{OnLine, Stands, greedy, greedy-leads, floor-up}
-use Rattle.exchange.proofs.Gaps.{NoGap, crossed, arrives-within}
-use Rattle.exchange.proofs.RuleLaws.{rule-greedy, ruled-path, ruled-run, arrives-first, first-arrives}
+use Rattle.exchange.proofs.GivenOrder.Run.{run, first, first-least, after-path}
+use Rattle.exchange.proofs.GivenOrder.Lead as lead
+use Rattle.exchange.proofs.GivenOrder.Greedy.{OnLine, Stands, greedy, greedy-leads, floor-up}
+use Rattle.exchange.proofs.GivenOrder.Gaps.{NoGap, crossed, arrives-within}
+use Rattle.exchange.proofs.GivenOrder.RuleLaws.{rule-greedy, ruled-path, ruled-run, arrives-first, first-arrives}
 
 -- a deal along one order: places count units
 module _ (d : Deal) (r : Rising d) (counts : (a b : ℕ) → d .holds a b ≡ leb a b) where

@@ -7,11 +7,7 @@ pub mod FormLaws
 -- the code's tests
 pub mod Machine
 pub mod TestLaws
--- the theory of a given order
-pub mod Run
-pub mod Lead
-pub mod Farthest
-pub mod Greedy
-pub mod Gaps
-pub mod RuleLaws
+-- planning along a given order, choosing an order of units, and planning over the rows of a table
 pub mod GivenOrder
+pub mod Choice
+pub mod TablePlan

@@ -5,6 +5,9 @@ pub mod Forms
 pub mod Rule
 pub mod Arrival
 pub mod Possible
+pub mod Choice
+pub mod Fewest
 pub mod Test
 -- the working form of the theory
 pub mod Work
+pub mod Search

@@ -7,7 +7,7 @@ use native.Mathlib.Nat.{le-refl, le-trans, add-comm}
 use native.Mathlib.Omega.{arith}
 use lib.ListN.{length}
 use Rattle.exchange.specs.Deal.{State, Chain, ends, after, Behind}
-use Rattle.exchange.proofs.Run.{run, path, state-eq, run-add, run-stays, First, first-least}
+use Rattle.exchange.proofs.GivenOrder.Run.{run, path, state-eq, run-add, run-stays, First, first-least}
 
 -- next makes a step from every state of G to one of G, and no step R from a state behind gets ahead of it; nothing goes beyond the goal
 pub record Leads (R : State → State → Type 0) (G : State → Type 0) (next : State → State) (goal : State) : Type 0 where

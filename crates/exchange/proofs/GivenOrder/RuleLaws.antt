@@ -7,9 +7,9 @@ use Rattle.exchange.specs.Rule.{reach, rule, ruled}
 use Rattle.exchange.specs.Work.{workOf}
 use Rattle.exchange.specs.Arrival.{Arrives}
 use Rattle.exchange.proofs.Bridge.{reach-floor}
-use Rattle.exchange.proofs.Run.{run, path, ends-path, First}
-use Rattle.exchange.proofs.Farthest.{farthest}
-use Rattle.exchange.proofs.Greedy.{greedy}
+use Rattle.exchange.proofs.GivenOrder.Run.{run, path, ends-path, First}
+use Rattle.exchange.proofs.GivenOrder.Farthest.{farthest}
+use Rattle.exchange.proofs.GivenOrder.Greedy.{greedy}
 
 module _ (d : Deal) where
   reach-farthest : (p n : ℕ) → reach d p n ≡ farthest (workOf d .floor) p n

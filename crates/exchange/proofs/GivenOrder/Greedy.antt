@@ -6,9 +6,9 @@ use native.Mathlib.Omega.{arith}
 use lib.Dec.{T, leb, le→leb}
 use Rattle.exchange.specs.Deal.{State, Behind}
 use Rattle.exchange.specs.Work.{Work, Lawful, WorkStep}
-use Rattle.exchange.proofs.Run.{state-eq}
-use Rattle.exchange.proofs.Lead.{Leads}
-use Rattle.exchange.proofs.Farthest.{farthest, farthest-is}
+use Rattle.exchange.proofs.GivenOrder.Run.{state-eq}
+use Rattle.exchange.proofs.GivenOrder.Lead.{Leads}
+use Rattle.exchange.proofs.GivenOrder.Farthest.{farthest, farthest-is}
 
 -- everything delivered, the price paid
 abbrev pub goal : Work → State

@@ -8,10 +8,10 @@ use native.Mathlib.Decide.{decLe}
 use native.Mathlib.Omega.{arith}
 use Rattle.exchange.specs.Deal.{State, ends}
 use Rattle.exchange.specs.Work.{Work, WorkSteps}
-use Rattle.exchange.proofs.Run.{run, state-eq, run-add, run-stays}
-use Rattle.exchange.proofs.Lead.{run-keeps}
-use Rattle.exchange.proofs.Farthest.{farthest-is}
-use Rattle.exchange.proofs.Greedy.{OnLine, Stands, goal, greedy, greedy-leads, cap-up, floor-up}
+use Rattle.exchange.proofs.GivenOrder.Run.{run, state-eq, run-add, run-stays}
+use Rattle.exchange.proofs.GivenOrder.Lead.{run-keeps}
+use Rattle.exchange.proofs.GivenOrder.Farthest.{farthest-is}
+use Rattle.exchange.proofs.GivenOrder.Greedy.{OnLine, Stands, goal, greedy, greedy-leads, cap-up, floor-up}
 
 -- the most that is paid at each place covers the place after it
 abbrev pub NoGap : Work → Type 0
