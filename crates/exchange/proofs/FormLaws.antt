@@ -40,7 +40,7 @@ line-rising p n cost value costs values =
     terms-rising _ leb (λ a. le→leb a a (le-refl a)) (λ a. le→leb 0 a (omega arith)) (λ a b i j h. costs a b (leb→le a b h))
     (λ a b i j h. values a b (leb→le a b h))
 
-along-rises : (f : ℕ → ℕ) (σ : List ℕ) (i j : ℕ) → i ≤ j → along f σ i ≤ along f σ j
+pub along-rises : (f : ℕ → ℕ) (σ : List ℕ) (i j : ℕ) → i ≤ j → along f σ i ≤ along f σ j
 unfolding along
 along-rises f [] i j h = le-refl 0
 along-rises f (u ∷ σ) zero j h = omega arith

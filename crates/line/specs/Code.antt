@@ -1,0 +1,102 @@
+-- What the functions of this crate ask and give.
+use mathlib.Core.Path.{_≡_}
+use mathlib.Core.Bool.{Bool, true, false}
+use mathlib.Core.List.{List, map, _++_}
+use Prim.Native.Nat.{ℕ, _+_, _*_, _≤_, _<_, _^_}
+use lib.IntN.{pos}
+use lib.ListN.{length, getD, drop}
+use lib.Signed.{_≤ℤ_}
+use Rattle.area.specs.Entries.{entries, remainder}
+use Rattle.exchange.specs.Bounds.{upperOf, lowerOf}
+use Rattle.exchange.specs.Deal.{Deal, State, Plan, start, ends}
+use Rattle.exchange.specs.Forms.{along}
+use Rattle.exchange.specs.Rule.{reach, ruled}
+use Rattle.exchange.specs.Possible.{Possible}
+use Rattle.exchange.specs.declared.Bounds.{Bounds}
+use Rattle.line.specs.Segments.{spread, fits, allHave, dealAlong}
+use Rattle.line.specs.declared.Cursor.{Cursor}
+use Rattle.line.specs.declared.Sides.{Sides}
+use Rattle.line.specs.declared.Summed.{Summed}
+use Rattle.line.specs.declared.Totals.{Totals}
+
+-- the sum of the first k numbers
+abbrev pub sumTo : List ℕ → ℕ → ℕ
+sumTo xs k = along (λ a. a) xs k
+
+-- segments that fit, as facts
+pub record Fit (us cs vs : List ℕ) : Type 0 where
+  pub costs : length cs ≡ length us
+  pub values : length vs ≡ length us
+  pub have : allHave us ≡ true
+  pub units-fit : length (spread us cs) < 2 ^ 16
+  pub cost-fits : sumTo (spread us cs) (length (spread us cs)) < 2 ^ 32
+  pub value-fits : sumTo (spread us vs) (length (spread us cs)) < 2 ^ 32
+
+-- the totals of segments that fit
+pub record Known (us cs vs : List ℕ) (t : Totals) : Type 0 where
+  pub fit : Fit us cs vs
+  pub units-are : t .units ≡ length (spread us cs)
+  pub cost-is : t .cost ≡ sumTo (spread us cs) (length (spread us cs))
+  pub value-is : t .value ≡ sumTo (spread us vs) (length (spread us cs))
+
+-- what summing says: the totals, or that the segments do not fit
+abbrev pub Sums : List ℕ → List ℕ → List ℕ → Summed → Type 0
+Sums us cs vs (Summed.Fits t) = Known us cs vs t
+Sums us cs vs Summed.Unfit = fits us cs vs ≡ false
+
+-- the cursor stands at its place: at a unit of its segment where units are left, with the cost and value so far
+pub record At (us cs vs : List ℕ) (c : Cursor) : Type 0 where
+  pub place-is : c .place ≡ sumTo us (c .segment) + c .used
+  pub within : c .place ≤ length (spread us cs)
+  pub left : c .place < length (spread us cs) → c .used < getD us (c .segment) 0
+  pub cost-is : c .cost ≡ sumTo (spread us cs) (c .place)
+  pub value-is : c .value ≡ sumTo (spread us vs) (c .place)
+
+-- the cursor where nothing is delivered
+abbrev pub origin : Cursor
+origin = record { place = 0; segment = 0; used = 0; cost = 0; value = 0 }
+
+-- the cursor's place has a lower bound of at most what is paid
+pub record Reached (s : Sides) (us cs vs : List ℕ) (paid : ℕ) (c : Cursor) : Type 0 where
+  pub at : At us cs vs c
+  pub low : dealAlong s us cs vs .lower (c .place) ≤ℤ pos paid
+
+-- the cursor stands where the rule delivers to
+pub record Delivered (s : Sides) (us cs vs : List ℕ) (paid : ℕ) (c : Cursor) : Type 0 where
+  pub at : At us cs vs c
+  pub reached : c .place ≡ reach (dealAlong s us cs vs) paid (length (spread us cs))
+
+-- the test of a deal: it is possible, or it has no plan
+pub record Decides (d : Deal) (b : Bool) : Type 0 where
+  pub yes : b ≡ true → Possible d
+  pub no : b ≡ false → (xs : List State) → Plan d xs → ⊥
+
+-- an area of w-byte entries that holds the numbers xs at its front and is as it was after them
+pub record Holds (w : ℕ) (xs before after : List ℕ) : Type 0 where
+  pub entries-are : entries w after ≡ xs ++ drop (length xs) (entries w before)
+  pub remainder-kept : remainder w after ≡ remainder w before
+  pub length-kept : length after ≡ length before
+
+-- the state after n steps by the rule
+abbrev pub stateAt : Deal → ℕ → State
+stateAt d n = ends start (ruled d start n)
+
+-- the bounds of the start, by the totals
+abbrev pub startBounds : Sides → Totals → Bounds
+startBounds s t = record { lower = lowerOf (s .price) (t .value) 0 (s .buyer); upper = upperOf (s .price) (t .cost) 0 (s .supplier) }
+
+-- an area of w-byte entries has an entry for each step that there may be
+abbrev pub Room : ℕ → List ℕ → List ℕ → List ℕ → Type 0
+Room w us cs area = 2 * length (spread us cs) + 1 ≤ length (entries w area)
+
+-- a deal that has a plan, and areas with room for it
+pub record Ready (s : Sides) (us cs vs : List ℕ) (t : Totals) (places sums : List ℕ) : Type 0 where
+  pub known : Known us cs vs t
+  pub possible : Possible (dealAlong s us cs vs)
+  pub places-room : Room 2 us cs places
+  pub sums-room : Room 4 us cs sums
+
+-- both areas after n steps by the rule, up to their last entries
+pub record Written (d : Deal) (n : ℕ) (places sums places′ sums′ : List ℕ) : Type 0 where
+  pub places-hold : Holds 2 (map (λ s. s .place) (ruled d start n)) places places′
+  pub sums-hold : Holds 4 (map (λ s. s .paid) (ruled d start n)) sums sums′

@@ -1,0 +1,5 @@
+-- the definitions that the promise rests on
+pub mod Segments
+pub mod Promise
+-- what the private functions ask and give
+pub mod Code

@@ -1,0 +1,43 @@
+-- What planning along segments promises.
+use mathlib.Core.Path.{_≡_}
+use mathlib.Core.Bool.{Bool, true, false, _&&_}
+use mathlib.Core.List.{List, map, _++_}
+use Prim.Native.Nat.{ℕ, _+_, _-_, _*_}
+use lib.Dec.{leb}
+use lib.ListN.{length, replicate}
+use Rattle.area.specs.Entries.{entries, remainder}
+use Rattle.exchange.specs.Deal.{Deal, State, Safe, Plan, start}
+use Rattle.exchange.specs.Rule.{ruled}
+use Rattle.exchange.specs.Arrival.{Arrives}
+use Rattle.line.specs.Segments.{dealAlong, spread, fits}
+use Rattle.line.specs.declared.Planned.{Planned}
+use Rattle.line.specs.declared.Sides.{Sides}
+
+-- an area of w-byte entries after planning: n entries of a plan, then zeros; a remainder too short for an entry stays
+pub record Filled (w : ℕ) (xs before after : List ℕ) : Type 0 where
+  pub entries-are : entries w after ≡ xs ++ replicate (length (entries w before) - length xs) 0
+  pub remainder-kept : remainder w after ≡ remainder w before
+  pub length-kept : length after ≡ length before
+
+-- n steps: they are the rule's, from a safe start to the first arrival at the end
+pub record Success (d : Deal) (n : ℕ) (places sums places′ sums′ : List ℕ) : Type 0 where
+  pub start-safe : Safe d 0 0
+  pub arrives : Arrives d start n
+  pub places-are : Filled 2 (map (λ s. s .place) (ruled d start n)) places places′
+  pub sums-are : Filled 4 (map (λ s. s .paid) (ruled d start n)) sums sums′
+
+-- whether the segments fit, and each area holds twice their units and one more entries
+unfoldable pub suits : List ℕ → List ℕ → List ℕ → List ℕ → List ℕ → Bool
+suits us cs vs places sums =
+    fits us cs vs && leb (2 * length (spread us cs) + 1) (length (entries 2 places)) && leb (2 * length (spread us cs) + 1) (length (entries 4 sums))
+
+-- what each answer says of the deal, and of both areas
+abbrev pub Answers : Deal → Bool → Planned → List ℕ → List ℕ → List ℕ → List ℕ → Type 0
+Answers d suit (Planned.Steps n) places sums places′ sums′ = (suit ≡ true) × Success d n places sums places′ sums′
+Answers d suit Planned.Impossible places sums places′ sums′ =
+    (suit ≡ true) × (((xs : List State) → Plan d xs → ⊥) × ((places′ ≡ places) × (sums′ ≡ sums)))
+Answers d suit Planned.Unfit places sums places′ sums′ = (suit ≡ false) × ((places′ ≡ places) × (sums′ ≡ sums))
+
+-- the promise of planning
+abbrev pub Plans : Sides → List ℕ → List ℕ → List ℕ → Planned → List ℕ → List ℕ → List ℕ → List ℕ → Type 0
+Plans s us cs vs r places sums places′ sums′ = Answers (dealAlong s us cs vs) (suits us cs vs places sums) r places sums places′ sums′
