@@ -1,0 +1,97 @@
+-- Both ends joined, and what is answered. Assumes nothing.
+use mathlib.Core.Path.{_≡_}
+use mathlib.Core.Bool.{true, false}
+use mathlib.Core.List.{List, [], _∷_, _++_, reverse, reverse-cons, append-nil, append-assoc}
+use Prim.Native.Nat.{ℕ, suc, _+_, _-_, _≤_, _<_}
+use native.Mathlib.Omega.{arith}
+use lib.ListN.{length, getD, set, drop, replicate, length-append, length-reverse, length-drop, drop-of-length-le, List·getD-append}
+use lib.Seq.{drop-cons}
+use borrow.Author.Tests.{le-leb, lt-leb, eq-eqb, ne-eqb}
+use Rattle.exchange.specs.Choice.{at, sumOver, allItems, placed, front, back, bothEnds, choose}
+use Rattle.exchange.specs.Forms.{Sides}
+use Rattle.choice.specs.Promise.{padded, answerTo, chosenFor}
+use Rattle.choice.specs.Ends.{endOf, Holds}
+use Rattle.choice.proofs.PlaceLaws.{push}
+
+-- the front's items and the last k of the back's
+module _ (f b items back : List ℕ) (count more : ℕ) (hf : Holds f items count) (hb : Holds b back more) where
+  pub join-none : items ≡ padded (f ++ reverse (drop (more - 0) b))
+  join-none = rw (drop-of-length-le b {i = more - 0} (omega arith), append-nil) (hf .holds)
+
+  pub join-next : (k : ℕ) (now : List ℕ) → count + more ≤ 8 → k < more → now ≡ padded (f ++ reverse (drop (more - k) b))
+      → set now (count + k) (getD back (more - 1 - k) 0) ≡ padded (f ++ reverse (drop (more - (k + 1)) b))
+  join-next k now few h held =
+      rw (x-is, held, d, q, ← l-length) (push l x (omega (arith, l-length)))
+    where
+      x : ℕ
+      x = getD b (more - 1 - k) 0
+
+      l : List ℕ
+      l = f ++ reverse (drop (suc (more - 1 - k)) b)
+
+      d : more - k ≡ suc (more - 1 - k)
+      d = omega arith
+
+      m-below : more - 1 - k < length b
+      m-below = omega arith
+
+      x-is : getD back (more - 1 - k) 0 ≡ x
+      x-is = rw (hb .holds) (List·getD-append b (replicate (8 - length b) 0) 0 (more - 1 - k) m-below)
+
+      l-length : length l ≡ count + k
+      l-length =
+          omega (
+            arith,
+            length-append f (reverse (drop (suc (more - 1 - k)) b)),
+            length-reverse (drop (suc (more - 1 - k)) b),
+            length-drop (suc (more - 1 - k)) b,
+          )
+
+      d′ : more - (k + 1) ≡ more - 1 - k
+      d′ = omega arith
+
+      q : f ++ reverse (drop (more - (k + 1)) b) ≡ l ++ (x ∷ [])
+      q = rw (d′, drop-cons b (more - 1 - k) 0 m-below, reverse-cons, append-assoc)
+
+-- what is answered for both ends
+module _ (p : Sides) (units costs values : List ℕ) where
+  pub too-many : 8 < length units → record { found = false; items = replicate 8 0 } ≡ answerTo (chosenFor p units costs values)
+  unfolding chosenFor
+  too-many h = rw (lt-leb (length units) 8 h)
+
+  -- the items of each end
+  abbrev fronts : List ℕ
+  fronts = placed (front p units costs values) (length units)
+
+  abbrev backs : List ℕ
+  backs = placed (back p units costs values) (length units)
+
+  module _ {fi bi : List ℕ} {count more worth spent : ℕ} (few : length units ≤ 8)
+      (ew : worth ≡ sumOver units (at values) (allItems (length units)))
+      (es : spent ≡ sumOver units (at costs) (allItems (length units)))
+      (hf : Holds (placed (endOf true units values costs (worth + (p .supplier + p .buyer)) spent) (length units)) fi count)
+      (hb : Holds (placed (endOf false units costs values (p .supplier + p .buyer) 0) (length units)) bi more)
+    where
+      holds-front : Holds fronts fi count
+      holds-front = rw (← ew, ← es) hf
+
+      length-both : length (bothEnds p units costs values) ≡ count + more
+      unfolding bothEnds
+      length-both = omega (arith, length-append fronts (reverse backs), length-reverse backs, holds-front .counts)
+
+      pub not-all : (count + more ≡ length units → ⊥) → record { found = false; items = replicate 8 0 } ≡ answerTo (chosenFor p units costs values)
+      unfolding chosenFor choose
+      not-all n =
+          rw
+          (le-leb (length units) 8 few, ne-eqb (length (bothEnds p units costs values)) (length units) (λ e. n (omega (arith, length-both))))
+
+      pub all : {items : List ℕ} → count + more ≡ length units
+          → ((f b : List ℕ) → Holds f fi count → Holds b bi more → items ≡ padded (f ++ reverse b))
+          → record { found = true; items = items } ≡ answerTo (chosenFor p units costs values)
+      unfolding chosenFor choose bothEnds
+      all e joined =
+          rw (
+            le-leb (length units) 8 few,
+            eq-eqb (length (bothEnds p units costs values)) (length units) (omega (arith, length-both)),
+            joined fronts backs holds-front hb,
+          )
