@@ -1,25 +1,31 @@
 -- Both ends joined, and what is answered. Assumes nothing.
-use mathlib.Core.Path.{_≡_}
+use mathlib.Core.Path.{_≡_, refl}
 use mathlib.Core.Bool.{true, false}
-use mathlib.Core.List.{List, [], _∷_, _++_, reverse, reverse-cons, append-nil, append-assoc}
-use Prim.Native.Nat.{ℕ, suc, _+_, _-_, _≤_, _<_}
+use mathlib.Core.List.{List, [], _∷_, _++_, reverse, reverse-cons, map, append-nil, append-assoc}
+use Prim.Native.Nat.{ℕ, zero, suc, _+_, _-_, _≤_, _<_}
 use native.Mathlib.Omega.{arith}
-use lib.ListN.{length, getD, set, drop, replicate, length-append, length-reverse, length-drop, drop-of-length-le, List·getD-append}
+use lib.ListN.{length, getD, set, drop, replicate, length-append, length-reverse, length-drop, drop-of-length-le}
 use lib.Seq.{drop-cons}
 use borrow.Author.Tests.{le-leb, lt-leb, eq-eqb, ne-eqb}
 use Rattle.exchange.specs.Choice.{at, sumOver, allItems, placed, front, back, bothEnds, choose}
-use Rattle.exchange.specs.Forms.{Sides}
-use Rattle.choice.specs.Promise.{padded, answerTo, chosenFor}
+use Rattle.exchange.specs.declared.Sides.{Sides}
+use Rattle.choice.specs.Promise.{numbered, answerTo, chosenFor}
 use Rattle.choice.specs.Ends.{endOf, Holds}
 use Rattle.choice.proofs.PlaceLaws.{push}
 
+-- the number of an item
+number-at : (b rest : List ℕ) (n : ℕ) → n < length b → getD (map suc b ++ rest) n 0 ≡ suc (getD b n 0)
+number-at [] rest n h = absurd (omega arith)
+number-at (x ∷ b) rest zero h = refl
+number-at (x ∷ b) rest (suc n) h = number-at b rest n (omega arith)
+
 -- the front's items and the last k of the back's
 module _ (f b items back : List ℕ) (count more : ℕ) (hf : Holds f items count) (hb : Holds b back more) where
-  pub join-none : items ≡ padded (f ++ reverse (drop (more - 0) b))
+  pub join-none : items ≡ numbered (f ++ reverse (drop (more - 0) b))
   join-none = rw (drop-of-length-le b {i = more - 0} (omega arith), append-nil) (hf .holds)
 
-  pub join-next : (k : ℕ) (now : List ℕ) → count + more ≤ 8 → k < more → now ≡ padded (f ++ reverse (drop (more - k) b))
-      → set now (count + k) (getD back (more - 1 - k) 0) ≡ padded (f ++ reverse (drop (more - (k + 1)) b))
+  pub join-next : (k : ℕ) (now : List ℕ) → count + more ≤ 8 → k < more → now ≡ numbered (f ++ reverse (drop (more - k) b))
+      → set now (count + k) (getD back (more - 1 - k) 0) ≡ numbered (f ++ reverse (drop (more - (k + 1)) b))
   join-next k now few h held =
       rw (x-is, held, d, q, ← l-length) (push l x (omega (arith, l-length)))
     where
@@ -35,8 +41,8 @@ module _ (f b items back : List ℕ) (count more : ℕ) (hf : Holds f items coun
       m-below : more - 1 - k < length b
       m-below = omega arith
 
-      x-is : getD back (more - 1 - k) 0 ≡ x
-      x-is = rw (hb .holds) (List·getD-append b (replicate (8 - length b) 0) 0 (more - 1 - k) m-below)
+      x-is : getD back (more - 1 - k) 0 ≡ suc x
+      x-is = rw (hb .holds) (number-at b (replicate (8 - length b) 0) (more - 1 - k) m-below)
 
       l-length : length l ≡ count + k
       l-length =
@@ -55,7 +61,7 @@ module _ (f b items back : List ℕ) (count more : ℕ) (hf : Holds f items coun
 
 -- what is answered for both ends
 module _ (p : Sides) (units costs values : List ℕ) where
-  pub too-many : 8 < length units → record { found = false; items = replicate 8 0 } ≡ answerTo (chosenFor p units costs values)
+  pub too-many : 8 < length units → record { found = false; order = replicate 8 0 } ≡ answerTo (chosenFor p units costs values)
   unfolding chosenFor
   too-many h = rw (lt-leb (length units) 8 h)
 
@@ -79,15 +85,15 @@ module _ (p : Sides) (units costs values : List ℕ) where
       unfolding bothEnds
       length-both = omega (arith, length-append fronts (reverse backs), length-reverse backs, holds-front .counts)
 
-      pub not-all : (count + more ≡ length units → ⊥) → record { found = false; items = replicate 8 0 } ≡ answerTo (chosenFor p units costs values)
+      pub not-all : (count + more ≡ length units → ⊥) → record { found = false; order = replicate 8 0 } ≡ answerTo (chosenFor p units costs values)
       unfolding chosenFor choose
       not-all n =
           rw
           (le-leb (length units) 8 few, ne-eqb (length (bothEnds p units costs values)) (length units) (λ e. n (omega (arith, length-both))))
 
-      pub all : {items : List ℕ} → count + more ≡ length units
-          → ((f b : List ℕ) → Holds f fi count → Holds b bi more → items ≡ padded (f ++ reverse b))
-          → record { found = true; items = items } ≡ answerTo (chosenFor p units costs values)
+      pub all : {order : List ℕ} → count + more ≡ length units
+          → ((f b : List ℕ) → Holds f fi count → Holds b bi more → order ≡ numbered (f ++ reverse b))
+          → record { found = true; order = order } ≡ answerTo (chosenFor p units costs values)
       unfolding chosenFor choose bothEnds
       all e joined =
           rw (

@@ -2,28 +2,28 @@
 use mathlib.Core.Path.{_≡_, refl, sym, _∙_}
 use mathlib.Core.Bool.{Bool, true, false}
 use mathlib.Core.Logic.{dite}
-use mathlib.Core.List.{List, [], _∷_, _++_, append-assoc}
+use mathlib.Core.List.{List, [], _∷_, _++_, map, map-append, append-assoc}
 use Prim.Native.Nat.{ℕ, suc, _+_, _-_, _*_, _^_, _≤_, _<_}
 use native.Mathlib.Nat.{add-zero}
 use native.Mathlib.Decide.{ℕ-discrete}
 use native.Mathlib.Numerals.{add-one}
 use native.Mathlib.Omega.{arith}
 use lib.Dec.{eqb}
-use lib.ListN.{length, getD, set, replicate, length-set, length-append, getD-replicate}
-use lib.Seq.{getD-set-same, getD-set-other, set-append-seam}
+use lib.ListN.{length, getD, set, replicate, length-set, length-append, length-map, getD-replicate}
+use lib.Seq.{getD-set-same, getD-set-other, set-at}
 use borrow.Author.Tests.{eq-eqb, ne-eqb, lt-ltb, le-ltb}
 use Rattle.exchange.specs.Forms.{occurs}
 use Rattle.exchange.specs.Choice.{End, at, sumOver, best, placed}
 use Rattle.exchange.proofs.Choice.Sums.{occurs-append}
-use Rattle.choice.specs.Promise.{padded}
+use Rattle.choice.specs.Promise.{numbered}
 use Rattle.choice.specs.Ends.{leftOf, Holds}
 use Rattle.choice.proofs.ItemLaws.{sum-one, withSlack, best-left}
 
 -- one more item
-pub push : (l : List ℕ) (x : ℕ) → length l < 8 → set (padded l) (length l) x ≡ padded (l ++ (x ∷ []))
+pub push : (l : List ℕ) (x : ℕ) → length l < 8 → set (numbered l) (length l) (suc x) ≡ numbered (l ++ (x ∷ []))
 push l x h =
     let e : 8 - length l ≡ suc (8 - length (l ++ (x ∷ []))) = omega (arith, length-append l (x ∷ [])) in
-    rw (e, set-append-seam, append-assoc)
+    rw (e, set-at (map suc l) 0 (replicate (8 - length (l ++ (x ∷ []))) 0) (suc x) (length l) (length-map l suc), map-append suc l (x ∷ []), append-assoc)
 
 -- what the code holds after k choices
 pub record Going (e : End) (k : ℕ) (todo : List Bool) (items : List ℕ) (count added taken : ℕ) : Type 0 where
@@ -108,7 +108,7 @@ module _ {e : End} where
               ∙ rw (occurs-append i (placed e k) (j ∷ []), ne-eqb j i (λ z. q (sym z))) (simp add-zero))
 
           pub going-some : {todo′ : List Bool} {items′ : List ℕ} {count′ added′ taken′ : ℕ}
-              → added′ ≡ added + x → taken′ ≡ taken + y → todo′ ≡ set todo j false → items′ ≡ set items count j → count′ ≡ count + 1
+              → added′ ≡ added + x → taken′ ≡ taken + y → todo′ ≡ set todo j false → items′ ≡ set items count (j + 1) → count′ ≡ count + 1
               → Going e (k + 1) todo′ items′ count′ added′ taken′
           going-some ea en et ei ec =
               rw (et, ei, ec, ea, en)
@@ -122,7 +122,7 @@ module _ {e : End} where
                     (record {
                       few = omega (arith, length-append (placed e k) (j ∷ []));
                       counts = omega (arith, length-append (placed e k) (j ∷ []));
-                      holds = rw (g .holds .holds, g .holds .counts) (push (placed e k) j (omega (arith)));
+                      holds = rw (add-one j, g .holds .holds, g .holds .counts) (push (placed e k) j (omega (arith)));
                     });
                 added-is = rw (longer l) (omega (arith, sum-one (e .units) (e .gives) (placed e k) j));
                 taken-is = rw (longer l) (omega (arith, sum-one (e .units) (e .needs) (placed e k) j));

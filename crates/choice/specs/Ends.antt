@@ -6,7 +6,7 @@ use Prim.Native.Nat.{ℕ, _≤_}
 use lib.Dec.{leb}
 use lib.ListN.{length, getD}
 use Rattle.exchange.specs.Choice.{End, at, fits, better}
-use Rattle.choice.specs.Promise.{padded}
+use Rattle.choice.specs.Promise.{numbered}
 
 -- whether an item is placed from the front or else from the back: from the front if a unit gives at least what it needs, from the back
 -- if it gives more. The front gives costs and needs values, the back the other way round
@@ -42,8 +42,8 @@ leftOf e marks =
 abbrev pub takesOver : End → ℕ → ℕ → Bool
 takesOver e i j = fits e [] j && better e i j
 
--- an array and a count hold a list of items
+-- an array holds the numbers from 1 of a list of items, and a count how many
 pub record Holds (l items : List ℕ) (count : ℕ) : Type 0 where
   pub few : length l ≤ 8
   pub counts : count ≡ length l
-  pub holds : items ≡ padded l
+  pub holds : items ≡ numbered l

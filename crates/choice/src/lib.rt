@@ -4,7 +4,7 @@ ghost use mathlib.Core.List.{List, [], _++_, reverse};
 ghost use Prim.Native.Nat.{ℕ, _+_, _*_, _^_, _≤_, _<_};
 ghost use lib.ListN.{length};
 ghost use Rattle.exchange.specs.Choice.{at, sumOver, allItems, best, placed};
-ghost use Rattle.choice.specs.Promise.{padded, answerTo, chosenFor};
+ghost use Rattle.choice.specs.Promise.{numbered, answerTo, chosenFor};
 ghost use Rattle.choice.specs.Ends.{placedFrom, endOf, leftOf, takesOver, Holds};
 
 // The amount of a unit of item j.
@@ -115,7 +115,7 @@ fn find_best(
     i
 }
 
-// Items in the order in which they were placed, then zeros.
+// Item numbers from 1 in the order in which the items were placed, then zeros.
 struct Items {
     items: [u8; 8],
     count: usize,
@@ -141,7 +141,7 @@ fn place(
         let j = find_best(front, units, needs, gives, &todo, added, taken);
         if j < units.len() {
             todo[j] = false;
-            items[count] = j as u8;
+            items[count] = j as u8 + 1;
             count += 1;
             added += block(units, gives, j);
             taken += block(units, needs, j);
@@ -154,7 +154,7 @@ fn place(
 // The items from the front, then those from the back, of which the first stands last.
 fn join(mut items: [u8; 8], count: usize, back: &[u8; 8], more: usize) -> [u8; 8]
     requires { ⌜ count + more ≤ 8 ⌝ }
-    ensures { λ r. ⌜ ((f b : List ℕ) → Holds f items count → Holds b (now (back .entry)) more → r ≡ padded (f ++ reverse b)) ⌝ }
+    ensures { λ r. ⌜ ((f b : List ℕ) → Holds f items count → Holds b (now (back .entry)) more → r ≡ numbered (f ++ reverse b)) ⌝ }
 {
     let mut k = 0;
     while k < more {
@@ -164,10 +164,10 @@ fn join(mut items: [u8; 8], count: usize, back: &[u8; 8], more: usize) -> [u8; 8
     items
 }
 
-// The items in order, counted from 0, then zeros; all zero where no order is found.
+// The eight order bytes: item numbers from 1, then zeros; all zero where no order is found.
 pub struct Chosen {
     pub found: bool,
-    pub items: [u8; 8],
+    pub order: [u8; 8],
 }
 
 // The order in which the items are planned, each with all its units together. Items whose unit cost is at least the unit value are placed
@@ -179,7 +179,7 @@ pub fn choose(supplier: u32, buyer: u32, units: &[u16], costs: &[u32], values: &
     if 8 < units.len() {
         return Chosen {
             found: false,
-            items: [0u8; 8],
+            order: [0u8; 8],
         };
     }
     // The slack at the end. At the start it is more by the total value and less by the total cost.
@@ -193,11 +193,11 @@ pub fn choose(supplier: u32, buyer: u32, units: &[u16], costs: &[u32], values: &
     if count + more != units.len() {
         return Chosen {
             found: false,
-            items: [0u8; 8],
+            order: [0u8; 8],
         };
     }
     let front = first.items;
     let back = last.items;
-    let items = join(front, count, &back, more);
-    Chosen { found: true, items }
+    let order = join(front, count, &back, more);
+    Chosen { found: true, order }
 }

@@ -4,3 +4,5 @@ pub mod RoundTrip
 pub mod ParsedValid
 pub mod Canonical
 pub mod Cases
+pub mod Refusals
+pub mod FromHeader

@@ -8,6 +8,7 @@ pub mod Both
 pub mod Deal
 pub mod Slack
 pub mod Examples
+pub mod Named
 use mathlib.Core.Path.{_≡_, refl, subst}
 use mathlib.Core.Bool.{Bool, true, false, cond}
 use mathlib.Core.List.{List}
@@ -18,9 +19,10 @@ use lib.Dec.{eqb}
 use lib.ListN.{length}
 use borrow.Author.Tests.{eqb-true, eq-eqb}
 use Rattle.exchange.specs.Deal.{State, Safe, Plan}
-use Rattle.exchange.specs.Forms.{Sides, occurs, inOrder, Order}
+use Rattle.exchange.specs.Forms.{occurs, inOrder, Order}
 use Rattle.exchange.specs.Possible.{Possible}
 use Rattle.exchange.specs.Choice.{at, together, bothEnds, choose}
+use Rattle.exchange.specs.declared.Sides.{Sides}
 use Rattle.exchange.proofs.FormLaws.{order-rising}
 use Rattle.exchange.proofs.GivenOrder.{plan-exists}
 use Rattle.exchange.proofs.Choice.Both.{items-once, items-order, items-fit, every-placed}

@@ -11,8 +11,9 @@ use Rattle.grid.specs.Rows.{rowsOf, rising}
 use Rattle.grid.proofs.RowLaws.{rows-pos}
 use Rattle.exchange.specs.Bounds.{Terms}
 use Rattle.exchange.specs.Deal.{dealOf}
-use Rattle.exchange.specs.Forms.{Sides, along, line, ladder, inOrder, holdsRow, table}
+use Rattle.exchange.specs.Forms.{along, line, ladder, inOrder, holdsRow, table}
 use Rattle.exchange.specs.Work.{Rising}
+use Rattle.exchange.specs.declared.Sides.{Sides}
 use Rattle.exchange.proofs.BoundLaws.{high↔, low↔, upper-rises, lower-rises}
 use Rattle.exchange.proofs.TableLaws.{row-self, row-start, rows-rise}
 

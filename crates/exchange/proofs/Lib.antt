@@ -11,3 +11,4 @@ pub mod TestLaws
 pub mod GivenOrder
 pub mod Choice
 pub mod TablePlan
+pub mod PlanInLaws

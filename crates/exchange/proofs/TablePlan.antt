@@ -17,10 +17,11 @@ use lib.ListN.{length}
 use Rattle.grid.specs.Rows.{rowsOf, rising}
 use Rattle.grid.proofs.RowLaws.{rows-pos}
 use Rattle.exchange.specs.Deal.{State, Safe, Plan}
-use Rattle.exchange.specs.Forms.{Sides, table}
+use Rattle.exchange.specs.Forms.{table}
 use Rattle.exchange.specs.Work.{Rising, workOf}
 use Rattle.exchange.specs.Fewest.{Earliest}
 use Rattle.exchange.specs.Search.{count, mostSteps, planned}
+use Rattle.exchange.specs.declared.Sides.{Sides}
 use Rattle.exchange.proofs.FormLaws.{table-rising}
 use Rattle.exchange.proofs.TablePlan.Planned.{plan-counted, planned-earliest}
 use Rattle.exchange.proofs.TablePlan.RowUnits.{unitsOf, units-rise, units-last, last-pos}

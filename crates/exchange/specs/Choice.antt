@@ -7,7 +7,8 @@ use lib.Dec.{leb, ltb, eqb}
 use lib.IntN.{ℤ, _-ℤ_}
 use lib.ListN.{length, getD, replicate}
 use Rattle.exchange.specs.Deal.{Deal}
-use Rattle.exchange.specs.Forms.{Sides, occurs}
+use Rattle.exchange.specs.Forms.{occurs}
+use Rattle.exchange.specs.declared.Sides.{Sides}
 
 -- the slack of a place: its upper bound less its lower one
 abbrev pub slack : Deal → ℕ → ℤ

@@ -7,18 +7,13 @@ use lib.Dec.{leb, eqb}
 use lib.ListN.{length, getD}
 use Rattle.grid.specs.Rows.{rowsOf}
 use Rattle.exchange.specs.Deal.{Deal, dealOf}
+use Rattle.exchange.specs.declared.Sides.{Sides}
 
 -- the sum of f over the first k units of an order
 unfoldable pub along : (ℕ → ℕ) → List ℕ → ℕ → ℕ
 along f [] k = 0
 along f (j ∷ σ) zero = 0
 along f (j ∷ σ) (suc k) = f j + along f σ k
-
--- P and the two defection costs
-pub record Sides : Type 0 where
-  pub price : ℕ
-  pub supplier : ℕ
-  pub buyer : ℕ
 
 -- a deal along one order: places count units, and a later place holds the units of every earlier one
 abbrev pub line : Sides → ℕ → (ℕ → ℕ) → (ℕ → ℕ) → Deal

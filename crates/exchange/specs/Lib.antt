@@ -8,6 +8,8 @@ pub mod Possible
 pub mod Choice
 pub mod Fewest
 pub mod Test
+pub mod PlanIn
+pub mod Named
 -- the working form of the theory
 pub mod Work
 pub mod Search

@@ -1,9 +1,24 @@
-// The bounds of a place, and the tests of a state and of a step.
+// The numbers of a deal, the answers of planning, the bounds of a place, and the tests of a state and of a step.
 ghost use mathlib.Core.Path.{_≡_};
 ghost use Prim.Native.Nat.{_<_, _^_};
 ghost use lib.IntN.{subℕ};
 ghost use Rattle.exchange.specs.Bounds.{upperOf, lowerOf};
 ghost use Rattle.exchange.specs.Test.{safeTest, stepTest};
+
+// P and the defection costs of the supplier and the buyer.
+pub struct Sides {
+    pub price: u32,
+    pub supplier: u32,
+    pub buyer: u32,
+}
+
+// The answers of planning.
+pub enum Planned {
+    Steps(usize),
+    Impossible,
+    // The deal or an area does not fit.
+    Unfit,
+}
 
 // The bounds of a place. Either may be negative.
 pub struct Bounds {

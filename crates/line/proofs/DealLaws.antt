@@ -20,6 +20,7 @@ use Rattle.exchange.specs.Rule.{reach, rule}
 use Rattle.exchange.specs.Possible.{Possible}
 use Rattle.exchange.specs.Test.{safeTest}
 use Rattle.exchange.specs.Work.{Rising, workOf}
+use Rattle.exchange.specs.declared.Sides.{Sides}
 use Rattle.exchange.proofs.Int.{leZ-true}
 use Rattle.exchange.proofs.Bridge.{lawful, coins-low, reach-floor}
 use Rattle.exchange.proofs.GivenOrder.Farthest.{farthest, farthest-is}
@@ -28,10 +29,9 @@ use Rattle.exchange.proofs.GivenOrder.{plan-exists}
 use Rattle.exchange.proofs.GivenOrder.Greedy.{OnLine, floor-up}
 use Rattle.exchange.proofs.GivenOrder.RuleLaws.{rule-greedy}
 use Rattle.exchange.proofs.TestLaws.{test↔}
-use Rattle.line.specs.Segments.{spread, sidesOf, dealAlong}
+use Rattle.line.specs.Segments.{spread, dealAlong}
 use Rattle.line.specs.Code.{Known, At, Reached, Delivered, Decides, origin, startBounds}
 use Rattle.line.specs.declared.Cursor.{Cursor}
-use Rattle.line.specs.declared.Sides.{Sides}
 use Rattle.line.specs.declared.Totals.{Totals}
 use Rattle.line.proofs.SegmentLaws.{sum-zero, at-origin}
 
@@ -39,7 +39,7 @@ use Rattle.line.proofs.SegmentLaws.{sum-zero, at-origin}
 
 module _ (s : Sides) (us cs vs : List ℕ) where
   pub rising : Rising (dealAlong s us cs vs)
-  rising = ladder-rising (sidesOf s) (spread us cs) (spread us vs)
+  rising = ladder-rising s (spread us cs) (spread us vs)
 
   pub on-line : OnLine (workOf (dealAlong s us cs vs))
   on-line = record { lawful = lawful (dealAlong s us cs vs) rising; counts = λ a b. refl }

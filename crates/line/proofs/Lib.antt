@@ -4,3 +4,7 @@ pub mod SegmentLaws
 pub mod DealLaws
 -- the rule's steps in the areas
 pub mod RunLaws
+-- the bounds of a place
+pub mod PlaceLaws
+-- a brought plan followed step by step
+pub mod CheckLaws

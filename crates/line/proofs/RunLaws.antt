@@ -9,26 +9,28 @@ use native.Mathlib.Omega.{arith}
 use native.Mathlib.Numerals.{add-one}
 use borrow.Author.Tests.{eqb-true, eq-eqb, leb-true, le-leb}
 use lib.Dec.{T, eqb}
-use lib.ListN.{length, getD, drop, length-append, length-drop, length-map}
+use lib.ListN.{length, getD, drop, length-append, length-map}
 use lib.Seq.{drop-cons, set-at, take-at}
 use Rattle.area.specs.Entries.{entries, Stored, Cleared}
+use Rattle.area.specs.Filled.{Filled}
+use Rattle.area.proofs.FilledLaws.{filled}
 use Rattle.exchange.specs.Arrival.{Arrives}
 use Rattle.exchange.specs.Bounds.{upperOf}
 use Rattle.exchange.specs.Deal.{Deal, State, ends, start, end}
 use Rattle.exchange.specs.Possible.{Possible}
 use Rattle.exchange.specs.Rule.{coins, rule, ruled}
 use Rattle.exchange.specs.Work.{workOf}
+use Rattle.exchange.specs.declared.Sides.{Sides}
 use Rattle.exchange.proofs.Bridge.{coins-low}
-use Rattle.exchange.proofs.GivenOrder.{ruled-arrives, ruled-short}
+use Rattle.exchange.proofs.GivenOrder.{ruled-arrives}
 use Rattle.exchange.proofs.GivenOrder.Greedy.{Stands, greedy, greedy-leads}
 use Rattle.exchange.proofs.GivenOrder.Lead.{run-keeps}
 use Rattle.exchange.proofs.GivenOrder.RuleLaws.{rule-greedy, ruled-run}
 use Rattle.exchange.proofs.GivenOrder.Run.{run, run-add, state-eq}
 use Rattle.line.specs.Segments.{spread, fits, dealAlong}
-use Rattle.line.specs.Promise.{Filled, Success, suits}
+use Rattle.line.specs.Promise.{Success, suits}
 use Rattle.line.specs.Code.{Fit, Known, At, Reached, Delivered, origin, Holds, Ready, Written, Room, stateAt}
 use Rattle.line.specs.declared.Cursor.{Cursor}
-use Rattle.line.specs.declared.Sides.{Sides}
 use Rattle.line.specs.declared.Totals.{Totals}
 use Rattle.line.proofs.SegmentLaws.{at-origin, fits↔, not-so}
 use Rattle.line.proofs.DealLaws.{rising, on-line, upper-at}
@@ -53,20 +55,14 @@ holds-next w xs before mid after n v h s l r =
 
 -- the rest cleared
 holds-cleared : (w : ℕ) (xs before mid after : List ℕ) (n : ℕ) → Holds w xs before mid → Cleared w mid after n → length xs ≡ n
-    → n ≤ length (entries w before) → Filled w xs before after
-holds-cleared w xs before mid after n h c l r =
-    let old = entries w before in
-    let e : length (xs ++ drop n old) ≡ length old = simp (length-append, length-drop) (omega arith) in
-    record {
-      entries-are = rw (c .entries-zero, h .entries-are, l, e, take-at xs (drop n old) n l);
-      remainder-kept = c .remainder-kept ∙ h .remainder-kept;
-      length-kept = c .length-kept ∙ h .length-kept;
-    }
+    → Filled w xs before after
+holds-cleared w xs before mid after n h c l =
+    filled w xs before mid after n l (rw (h .entries-are, take-at xs (drop (length xs) (entries w before)) n l)) (h .remainder-kept) (h .length-kept) c
 
 -- ---- the rule's states
 
 module _ (d : Deal) where
-  ruled-length : (s : State) (n : ℕ) → length (ruled d s n) ≡ n
+  pub ruled-length : (s : State) (n : ℕ) → length (ruled d s n) ≡ n
   unfolding ruled
   ruled-length s zero = refl
   ruled-length s (suc n) = ap suc (ruled-length (rule d s) n)
@@ -179,13 +175,12 @@ pub laid : (s : Sides) (us cs vs : List ℕ) (t : Totals) (places sums mid mid�
 laid s us cs vs t places sums mid mid′ places′ sums′ n r a w cp cs′ =
     let d = dealAlong s us cs vs in
     let safe = r .possible .start-safe in
-    let short = ruled-short d (rising s us cs vs) (λ a b. refl) safe n a in
     let long : (f : State → ℕ) → length (map f (ruled d start n)) ≡ n = λ f. length-map (ruled d start n) f ∙ ruled-length d start n in
     record {
       start-safe = safe;
       arrives = a;
-      places-are = holds-cleared 2 _ places mid places′ n (w .places-hold) cp (long _) (omega arith);
-      sums-are = holds-cleared 4 _ sums mid′ sums′ n (w .sums-hold) cs′ (long _) (omega arith);
+      places-are = holds-cleared 2 _ places mid places′ n (w .places-hold) cp (long _);
+      sums-are = holds-cleared 4 _ sums mid′ sums′ n (w .sums-hold) cs′ (long _);
     }
 
 -- the segments and both areas suit exactly if the segments fit and there is room

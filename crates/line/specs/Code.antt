@@ -13,9 +13,9 @@ use Rattle.exchange.specs.Forms.{along}
 use Rattle.exchange.specs.Rule.{reach, ruled}
 use Rattle.exchange.specs.Possible.{Possible}
 use Rattle.exchange.specs.declared.Bounds.{Bounds}
+use Rattle.exchange.specs.declared.Sides.{Sides}
 use Rattle.line.specs.Segments.{spread, fits, allHave, dealAlong}
 use Rattle.line.specs.declared.Cursor.{Cursor}
-use Rattle.line.specs.declared.Sides.{Sides}
 use Rattle.line.specs.declared.Summed.{Summed}
 use Rattle.line.specs.declared.Totals.{Totals}
 

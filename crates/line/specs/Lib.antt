@@ -3,3 +3,8 @@ pub mod Segments
 pub mod Promise
 -- what the private functions ask and give
 pub mod Code
+-- what the bounds of a place and the check of a plan promise
+pub mod BoundsPromise
+pub mod CheckPromise
+-- what their private functions ask and give
+pub mod CheckCode

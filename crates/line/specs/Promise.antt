@@ -1,23 +1,18 @@
 -- What planning along segments promises.
 use mathlib.Core.Path.{_≡_}
 use mathlib.Core.Bool.{Bool, true, false, _&&_}
-use mathlib.Core.List.{List, map, _++_}
-use Prim.Native.Nat.{ℕ, _+_, _-_, _*_}
+use mathlib.Core.List.{List, map}
+use Prim.Native.Nat.{ℕ, _+_, _*_}
 use lib.Dec.{leb}
-use lib.ListN.{length, replicate}
-use Rattle.area.specs.Entries.{entries, remainder}
+use lib.ListN.{length}
+use Rattle.area.specs.Entries.{entries}
+use Rattle.area.specs.Filled.{Filled}
 use Rattle.exchange.specs.Deal.{Deal, State, Safe, Plan, start}
 use Rattle.exchange.specs.Rule.{ruled}
 use Rattle.exchange.specs.Arrival.{Arrives}
+use Rattle.exchange.specs.declared.Planned.{Planned}
+use Rattle.exchange.specs.declared.Sides.{Sides}
 use Rattle.line.specs.Segments.{dealAlong, spread, fits}
-use Rattle.line.specs.declared.Planned.{Planned}
-use Rattle.line.specs.declared.Sides.{Sides}
-
--- an area of w-byte entries after planning: n entries of a plan, then zeros; a remainder too short for an entry stays
-pub record Filled (w : ℕ) (xs before after : List ℕ) : Type 0 where
-  pub entries-are : entries w after ≡ xs ++ replicate (length (entries w before) - length xs) 0
-  pub remainder-kept : remainder w after ≡ remainder w before
-  pub length-kept : length after ≡ length before
 
 -- n steps: they are the rule's, from a safe start to the first arrival at the end
 pub record Success (d : Deal) (n : ℕ) (places sums places′ sums′ : List ℕ) : Type 0 where

@@ -5,9 +5,8 @@ use Prim.Native.Nat.{ℕ, _^_}
 use lib.Dec.{ltb, eqb}
 use lib.ListN.{length, replicate}
 use Rattle.exchange.specs.Deal.{Deal}
-use Rattle.exchange.specs.Forms as forms
 use Rattle.exchange.specs.Forms.{along, ladder}
-use Rattle.line.specs.declared.Sides.{Sides}
+use Rattle.exchange.specs.declared.Sides.{Sides}
 
 -- the amounts of every unit, one after the other: u units of each amount
 unfoldable pub spread : List ℕ → List ℕ → List ℕ
@@ -15,13 +14,9 @@ spread [] amounts = []
 spread (u ∷ us) [] = []
 spread (u ∷ us) (a ∷ rest) = replicate u a ++ spread us rest
 
--- P and the defection costs that the code's struct holds
-abbrev pub sidesOf : Sides → forms.Sides
-sidesOf s = record { price = s .price; supplier = s .supplier; buyer = s .buyer }
-
 -- the deal along segments with these units, costs and values
 abbrev pub dealAlong : Sides → List ℕ → List ℕ → List ℕ → Deal
-dealAlong s us cs vs = ladder (sidesOf s) (spread us cs) (spread us vs)
+dealAlong s us cs vs = ladder s (spread us cs) (spread us vs)
 
 -- the total of an amount over all units
 abbrev pub totalOf : List ℕ → List ℕ → ℕ

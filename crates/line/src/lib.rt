@@ -14,20 +14,8 @@ ghost use Rattle.exchange.specs.Test.{safeTest};
 ghost use Rattle.line.specs.Segments.{spread, allHave, dealAlong};
 ghost use Rattle.line.specs.Promise.{Plans, Success};
 ghost use Rattle.line.specs.Code.{sumTo, Sums, Fit, Known, At, Reached, Delivered, Decides, Ready, Written, startBounds, origin};
-
-// P and the defection costs of the supplier and the buyer.
-pub struct Sides {
-    pub price: u32,
-    pub supplier: u32,
-    pub buyer: u32,
-}
-
-pub enum Planned {
-    Steps(usize),
-    Impossible,
-    // The segments do not fit, or an area is too short.
-    Unfit,
-}
+use exchange::Planned;
+use exchange::Sides;
 
 // All units, and their cost and value together.
 struct Totals {
@@ -351,4 +339,64 @@ pub fn plan(
     }
     let n = lay(sides, t, units, costs, values, places, sums);
     Planned::Steps(n)
+}
+
+ghost use Rattle.line.specs.BoundsPromise.{BoundsOf};
+ghost use Rattle.line.specs.CheckPromise.{Checks};
+
+mod follow;
+mod place;
+
+pub enum Bounded {
+    Between(exchange::Bounds),
+    // The segments do not fit, or the place is above all units.
+    Unfit,
+}
+
+pub enum Checked {
+    Safe,
+    Unsafe,
+    // The segments do not fit, or an area has fewer entries than the count says.
+    Unfit,
+}
+
+// Both bounds of a place along the segments.
+pub fn bounds(sides: Sides, units: &[u16], costs: &[u32], values: &[u32], place: usize) -> Bounded
+    ensures { λ r. ⌜ BoundsOf sides (now (units .entry)) (now (costs .entry)) (now (values .entry)) place r ⌝ }
+{
+    let Summed::Fits(t) = add_up(units, costs, values) else {
+        return Bounded::Unfit;
+    };
+    if t.units < place {
+        return Bounded::Unfit;
+    }
+    let c = place::advance(units, costs, values, first(), place);
+    Bounded::Between(place::bounds_at(sides, t, c))
+}
+
+// Whether the first entries of two byte areas, places and paid totals, are a plan along the segments.
+pub fn check(
+    sides: Sides,
+    units: &[u16],
+    costs: &[u32],
+    values: &[u32],
+    count: usize,
+    places: &[u8],
+    sums: &[u8],
+) -> Checked
+    ensures { λ r. ⌜ Checks sides (now (units .entry)) (now (costs .entry)) (now (values .entry)) count (now (places .entry)) (now (sums .entry)) r ⌝ }
+{
+    let Summed::Fits(t) = add_up(units, costs, values) else {
+        return Checked::Unfit;
+    };
+    if area::count_u16(places) < count {
+        return Checked::Unfit;
+    }
+    if area::count_u32(sums) < count {
+        return Checked::Unfit;
+    }
+    if follow::follows(sides, t, units, costs, values, count, places, sums) {
+        return Checked::Safe;
+    }
+    Checked::Unsafe
 }

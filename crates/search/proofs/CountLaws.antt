@@ -8,36 +8,31 @@ use native.Mathlib.Decide.{ℕ-discrete, decLt}
 use native.Mathlib.Numerals.{add-one}
 use native.Mathlib.Omega.{arith}
 use borrow.Author.Tests.{eq-eqb, ne-eqb}
-use lib.Dec.{leb, eqb, leb→le, le→leb}
+use lib.Dec.{eqb, leb→le, le→leb}
 use lib.ListN.{getD, set, replicate, length-replicate, getD-replicate}
 use lib.Seq.{getD-set-same, getD-set-other}
 use Rattle.grid.specs.Rows.{rowsOf}
 use Rattle.exchange.specs.Work.{Work}
 use Rattle.exchange.specs.Search.{need, count}
-use Rattle.exchange.proofs.TablePlan.First.{IsFirst, first-is}
-use Rattle.exchange.proofs.TablePlan.Count.{settled-none}
+use Rattle.exchange.proofs.TablePlan.Count.{count-is, settled-none}
 use Rattle.search.specs.Layers.{mark, Table, Filled, Needs, Named, Same, Counted}
 use Rattle.search.specs.declared.Terms.{Terms}
 use Rattle.search.proofs.LayerLaws.{needs-next, named-next}
 
 module _ (w : Work) (most : ℕ) where
-  first-count : IsFirst (λ j. leb (need w mark j 0) 0) 1 most (count w mark most)
-  unfolding count
-  first-count = first-is (λ j. leb (need w mark j 0) 0) 1 most
-
   counted-at : (j : ℕ) → 0 < j → j ≤ most → need w mark j 0 ≤ 0 → ((i : ℕ) → i < j → 0 < need w mark i 0) → j ≡ count w mark most
   counted-at j p h e none = go (decLt (count w mark most) j)
     where
       go : Dec (count w mark most < j) → j ≡ count w mark most
-      go (yes l) = absurd (omega (arith, none (count w mark most) l, leb→le (need w mark (count w mark most) 0) 0 (first-count .passes (omega arith))))
-      go (no n) = omega (arith, first-count .least j p (le→leb _ _ e))
+      go (yes l) = absurd (omega (arith, none (count w mark most) l, leb→le (need w mark (count w mark most) 0) 0 (count-is w mark most .passes (omega arith))))
+      go (no n) = omega (arith, count-is w mark most .least j p (le→leb _ _ e))
 
   counted-none : ((i : ℕ) → i ≤ most → 0 < need w mark i 0) → most + 1 ≡ count w mark most
   counted-none none = go (decLt (count w mark most) (most + 1))
     where
       go : Dec (count w mark most < most + 1) → most + 1 ≡ count w mark most
-      go (yes l) = absurd (omega (arith, none (count w mark most) (omega arith), leb→le (need w mark (count w mark most) 0) 0 (first-count .passes (omega arith))))
-      go (no n) = omega (arith, first-count .within)
+      go (yes l) = absurd (omega (arith, none (count w mark most) (omega arith), leb→le (need w mark (count w mark most) 0) 0 (count-is w mark most .passes (omega arith))))
+      go (no n) = omega (arith, count-is w mark most .within)
 
 -- the sums of no step
 pub needs-none : (w : Work) (rows : ℕ) → rows ≡ suc (w .last) → rows ≤ 128 → Needs w 0 (set (replicate 128 mark) (rows - 1) (w .price))
@@ -98,7 +93,7 @@ module _ (w : Work) (rows : ℕ) (all : rows ≡ suc (w .last)) (some : 1 < rows
         record {
           count-is = λ law.
               omega
-              (arith, settled-none w mark most law j (λ a l. sym (needs a l) ∙ sym (s a (omega arith)) ∙ h .needs a l) (h .unfinished j (omega arith)), first-count w most .within);
+              (arith, settled-none w mark most law j (λ a l. sym (needs a l) ∙ sym (s a (omega arith)) ∙ h .needs a l) (h .unfinished j (omega arith)), count-is w mark most .within);
           named = λ (q : most + 1 ≤ most). absurd (omega arith);
         }
 

@@ -14,9 +14,11 @@ use lib.Seq.{getD-set-same, getD-set-other}
 use Rattle.exchange.specs.Bounds.{upperOf, lowerOf}
 use Rattle.exchange.specs.Rule.{coins}
 use Rattle.exchange.specs.Work.{Work}
+use Rattle.exchange.specs.Forms.{holdsRow}
 use Rattle.exchange.specs.Search.{leastFloor, need}
 use Rattle.exchange.proofs.TablePlan.Floor.{floor-ext}
-use Rattle.search.specs.Layers.{capOf, floorOf, mark, working, Table, sumAt, betterOf, scan, Filled, valueOf, Needs, Named}
+use Rattle.exchange.proofs.TablePlan.RowUnits.{holds-rises}
+use Rattle.search.specs.Layers.{capOf, floorOf, mark, working, searched, Table, sumAt, betterOf, scan, Filled, valueOf, Needs, Named}
 use Rattle.search.specs.declared.Best.{Best}
 use Rattle.search.specs.declared.Terms.{Terms}
 use Rattle.search.proofs.BoolLaws.{and-false}
@@ -41,20 +43,33 @@ module _ (t : Bool) (needs cap floor b : ℕ) (old : Best) where
 -- the cap and the floor of a row, by the number of rows
 module _ (t : Terms) (us costs values : List ℕ) (good : Table t us) where
   pub cap-is : (r a : ℕ) → r ≡ capOf t costs a → r ≡ working t us costs values .cap a
-  cap-is r a e = e ∙ ap (λ (n : ℕ). min (coins (upperOf (t .price) (getD costs (n - 1) 0) (getD costs a 0) (t .supplier))) (t .price)) (good .rows-are)
+  cap-is r a e = e ∙ ap (λ (n : ℕ). min (coins (upperOf (t .sides .price) (getD costs (n - 1) 0) (getD costs a 0) (t .sides .supplier))) (t .sides .price)) (good .rows-are)
 
   pub floor-is : (r b : ℕ) → r ≡ floorOf t values b → r ≡ working t us costs values .floor b
-  floor-is r b e = e ∙ ap (λ (n : ℕ). coins (lowerOf (t .price) (getD values (n - 1) 0) (getD values b 0) (t .buyer))) (good .rows-are)
+  floor-is r b e = e ∙ ap (λ (n : ℕ). coins (lowerOf (t .sides .price) (getD values (n - 1) 0) (getD values b 0) (t .sides .buyer))) (good .rows-are)
 
 -- one row more is looked at
-pub scan-next : (w : Work) (sums : List ℕ) (a b cap floor : ℕ) (old new : Best) → cap ≡ w .cap a → floor ≡ w .floor b → old ≡ scan w sums a b
-    → new ≡ betterOf (w .holds a b) (getD sums b 0) cap floor b old → new ≡ scan w sums a (b + 1)
+pub scan-next : (w : Work) (sums : List ℕ) (a b cap : ℕ) (old new : Best) → cap ≡ w .cap a → old ≡ scan w sums a b
+    → new ≡ betterOf (w .holds a b) (getD sums b 0) cap (w .floor b) b old → new ≡ scan w sums a (b + 1)
 unfolding scan
-scan-next w sums a b cap floor old new c f o e = rw (add-one, ← o, ← c, ← f) e
+scan-next w sums a b cap old new c o e = rw (add-one, ← o, ← c) e
 
-pub scan-none : (w : Work) (sums : List ℕ) (a : ℕ) → record { row = 255; sum = mark } ≡ scan w sums a 0
-unfolding scan
-scan-none w sums a = refl
+-- no row below row a holds its units, so none of them can follow it
+module _ (t : Terms) (us costs floors : List ℕ) (good : Table t us) (sums : List ℕ) (a : ℕ) (h : a < t .rows) where
+  not-held : (n : ℕ) → n < a → holdsRow us a n ≡ false
+  not-held n l = go (holdsRow us a n) refl
+    where
+      go : (x : Bool) → holdsRow us a n ≡ x → x ≡ false
+      go true e = absurd (omega (arith, holds-rises us a n (omega (arith, good .rows-are)) (omega (arith, good .rows-are)) (rw e tt)))
+      go false e = refl
+
+  pub scan-below : (n : ℕ) → n ≤ a → scan (searched t us costs floors) sums a n ≡ record { row = 255; sum = mark }
+  unfolding scan
+  scan-below zero l = refl
+  scan-below (suc n) l =
+      let w : Work = searched t us costs floors in
+      better-no (holdsRow us a n) (sumAt sums n) (w .cap a) (w .floor n) n (scan w sums a n) (not-held n l)
+      ∙ scan-below n (omega arith)
 
 -- the first rows of a layer
 pub filled-none : (w : Work) (sums : List ℕ) (rows at : ℕ) (work next : List ℕ) → Filled w sums rows at work work next 0

@@ -2,6 +2,7 @@ pub mod BoolLaws
 pub mod BoundLaws
 pub mod HoldLaws
 pub mod LayerLaws
+pub mod FloorLaws
 pub mod CountLaws
 pub mod WalkLaws
 pub mod SuitLaws

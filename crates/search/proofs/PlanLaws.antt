@@ -8,6 +8,7 @@ use native.Mathlib.Omega.{arith}
 use lib.Dec.{leb}
 use lib.ListN.{length, length-map}
 use Rattle.area.specs.Entries.{Cleared}
+use Rattle.area.proofs.FilledLaws.{filled}
 use Rattle.grid.specs.Rows.{rowsOf}
 use Rattle.exchange.specs.Deal.{State, Plan, start}
 use Rattle.exchange.specs.Forms.{table}
@@ -17,20 +18,9 @@ use Rattle.exchange.proofs.FormLaws.{table-rising}
 use Rattle.exchange.proofs.TablePlan.{table-counted, table-earliest}
 use Rattle.exchange.proofs.TablePlan.Forward.{forwards-length}
 use Rattle.search.specs.declared.Terms.{Terms}
-use Rattle.search.specs.Promise.{sides, suits, Rise, Filled, Success}
+use Rattle.search.specs.Promise.{suits, Rise, Success}
 use Rattle.search.specs.Layers.{mark, working, Table, Counted, CanWalk, Written, startTest}
 use Rattle.search.proofs.SuitLaws.{Suits, fit, rows-few, some-units, start↔}
-use Rattle.search.proofs.WalkLaws.{room}
-
--- the entries of a plan are written, and those after them cleared
-filled : (w : ℕ) (f : State → ℕ) (xs : List State) (before mid after : List ℕ) (n : ℕ) → length xs ≡ n → Written w (map f xs) before mid n
-    → Cleared w mid after n → Filled w (map f xs) before after
-filled w f xs before mid after n e h c =
-    record {
-      entries-are = rw (c .entries-zero, h .front, room w before mid (h .length-kept), length-map xs f, e);
-      remainder-kept = c .remainder-kept ∙ h .remainder-kept;
-      length-kept = c .length-kept ∙ h .length-kept;
-    }
 
 -- a table that suits, with at most n steps
 pub record Fitted (t : Terms) (us costs values places sums work : List ℕ) (n : ℕ) : Type 0 where
@@ -51,21 +41,21 @@ module _ {t : Terms} {us costs values places sums work : List ℕ} {n : ℕ} (f 
   work-suits = rw (f .good .rows-are, f .most) (f .suit .work-room)
 
   -- a start that is not safe
-  pub no-start : startTest t costs values ≡ false → Rise us costs values → (ys : List State) → Plan (table (sides (t .price) (t .supplier) (t .buyer)) us costs values) ys → ⊥
+  pub no-start : startTest t costs values ≡ false → Rise us costs values → (ys : List State) → Plan (table (t .sides) us costs values) ys → ⊥
   no-start unsafe r ys p =
-      let q = table-counted (sides (t .price) (t .supplier) (t .buyer)) us costs values (f .suit .costs-all) (f .suit .values-all) (r .costs-rise) (r .values-rise) mark ys p in
+      let q = table-counted (t .sides) us costs values (f .suit .costs-all) (f .suit .values-all) (r .costs-rise) (r .values-rise) mark ys p in
       false≢true (sym unsafe ∙ start↔ t us costs values (f .good) .1 (q .0))
 
   module _ {work′ : List ℕ} {k : ℕ} (c : Counted (working t us costs values) (t .rows) n work′ k) where
     counted : Rise us costs values → k ≡ count (working t us costs values) mark (mostSteps us)
     counted r =
         rw (← f .most)
-        (c .count-is (lawful _ (table-rising (sides (t .price) (t .supplier) (t .buyer)) us costs values (f .suit .costs-all) (f .suit .values-all) (r .costs-rise) (r .values-rise))))
+        (c .count-is (lawful _ (table-rising (t .sides) us costs values (f .suit .costs-all) (f .suit .values-all) (r .costs-rise) (r .values-rise))))
 
     -- no count of steps
-    pub no-count : n < k → Rise us costs values → (ys : List State) → Plan (table (sides (t .price) (t .supplier) (t .buyer)) us costs values) ys → ⊥
+    pub no-count : n < k → Rise us costs values → (ys : List State) → Plan (table (t .sides) us costs values) ys → ⊥
     no-count l r ys p =
-        let q = table-counted (sides (t .price) (t .supplier) (t .buyer)) us costs values (f .suit .costs-all) (f .suit .values-all) (r .costs-rise) (r .values-rise) mark ys p in
+        let q = table-counted (t .sides) us costs values (f .suit .costs-all) (f .suit .values-all) (r .costs-rise) (r .values-rise) mark ys p in
         let h = counted r in
         omega (arith, q .1, f .most)
 
@@ -81,21 +71,21 @@ module _ {t : Terms} {us costs values places sums work : List ℕ} {n : ℕ} (f 
           }
 
       -- the plan that the areas hold
-      pub planned-success : t .price < mark → startTest t costs values ≡ true → {places₁ sums₁ places′ sums′ : List ℕ}
+      pub planned-success : t .sides .price < mark → startTest t costs values ≡ true → {places₁ sums₁ places′ sums′ : List ℕ}
           → Written 2 (map (λ s. s .place) (forwards (working t us costs values) mark k start)) places places₁ k
           → Written 4 (map (λ s. s .paid) (forwards (working t us costs values) mark k start)) sums sums₁ k
           → Cleared 2 places₁ places′ k → Cleared 4 sums₁ sums′ k → Rise us costs values
-          → Success (table (sides (t .price) (t .supplier) (t .buyer)) us costs values) k places sums places′ sums′
+          → Success (table (t .sides) us costs values) k places sums places′ sums′
       planned-success high safe {places₁} {sums₁} {places′} {sums′} wp ws cp cs r =
           record {
             plan = xs;
             earliest =
                 rw (counted r)
-                (table-earliest (sides (t .price) (t .supplier) (t .buyer)) us costs values (f .suit .costs-all) (f .suit .values-all) (r .costs-rise) (r .values-rise) mark
+                (table-earliest (t .sides) us costs values (f .suit .costs-all) (f .suit .values-all) (r .costs-rise) (r .values-rise) mark
                 high (some-units us (f .suit .some)) (start↔ t us costs values (f .good) .0 safe) (omega (arith, counted r, f .most)));
             steps = sym size;
-            places-are = filled 2 (λ s. s .place) xs places places₁ places′ k size wp cp;
-            sums-are = filled 4 (λ s. s .paid) xs sums sums₁ sums′ k size ws cs;
+            places-are = filled 2 _ places places₁ places′ k (long _) (wp .front) (wp .remainder-kept) (wp .length-kept) cp;
+            sums-are = filled 4 _ sums sums₁ sums′ k (long _) (ws .front) (ws .remainder-kept) (ws .length-kept) cs;
           }
         where
           xs : List State
@@ -103,3 +93,6 @@ module _ {t : Terms} {us costs values places sums work : List ℕ} {n : ℕ} (f 
 
           size : length xs ≡ k
           size = forwards-length (working t us costs values) mark k start
+
+          long : (f : State → ℕ) → length (map f xs) ≡ k
+          long f = length-map xs f ∙ size

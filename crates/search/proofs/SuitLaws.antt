@@ -20,7 +20,7 @@ use Rattle.exchange.specs.Search.{mostSteps}
 use Rattle.exchange.proofs.BoundLaws.{high↔}
 use Rattle.exchange.proofs.Bridge.{coins-low}
 use Rattle.search.proofs.BoolLaws.{and-false}
-use Rattle.search.specs.Promise.{suits, sides}
+use Rattle.search.specs.Promise.{suits}
 use Rattle.search.specs.Layers.{floorOf, Table, startTest}
 use Rattle.search.specs.declared.Terms.{Terms}
 
@@ -134,28 +134,28 @@ rows-few us r e h = e ∙ rw (le-leb _ _ h)
 -- ---- the start
 
 module _ (t : Terms) (costs values : List ℕ) where
-  pub start-under : t .price + getD costs 0 0 + t .supplier < getD costs (t .rows - 1) 0 → false ≡ startTest t costs values
+  pub start-under : t .sides .price + getD costs 0 0 + t .sides .supplier < getD costs (t .rows - 1) 0 → false ≡ startTest t costs values
   unfolding startTest
   start-under h = sym (rw (lt-leb _ _ h))
 
   pub start-uncovered : 0 < floorOf t values 0 → false ≡ startTest t costs values
   unfolding startTest
-  start-uncovered h = sym (rw (lt-leb _ _ h) (and-false (leb (getD costs (t .rows - 1) 0) (t .price + getD costs 0 0 + t .supplier))))
+  start-uncovered h = sym (rw (lt-leb _ _ h) (and-false (leb (getD costs (t .rows - 1) 0) (t .sides .price + getD costs 0 0 + t .sides .supplier))))
 
-  pub start-safe : getD costs (t .rows - 1) 0 ≤ t .price + getD costs 0 0 + t .supplier
+  pub start-safe : getD costs (t .rows - 1) 0 ≤ t .sides .price + getD costs 0 0 + t .sides .supplier
       → floorOf t values 0 ≤ 0 → true ≡ startTest t costs values
   unfolding startTest
   start-safe h k = sym (rw (le-leb _ _ h, le-leb _ _ k))
 
 pub start↔ : (t : Terms) (us costs values : List ℕ) → Table t us
-    → (startTest t costs values ≡ true) ↔ Safe (table (sides (t .price) (t .supplier) (t .buyer)) us costs values) 0 0
+    → (startTest t costs values ≡ true) ↔ Safe (table (t .sides) us costs values) 0 0
 unfolding startTest
 start↔ t us costs values good = rw (good .rows-are) (
   λ e.
       let both = and-eq-true-iff _ _ .0 e in
-      let h : getD costs (rowsOf us - 1) 0 ≤ t .price + getD costs 0 0 + t .supplier = leb-true _ _ (both .0) in
-      record { low = coins-low _ 0 .1 (leb-true _ _ (both .1)); high = high↔ (t .price) _ _ (t .supplier) 0 .1 (omega arith); within = omega arith },
+      let h : getD costs (rowsOf us - 1) 0 ≤ t .sides .price + getD costs 0 0 + t .sides .supplier = leb-true _ _ (both .0) in
+      record { low = coins-low _ 0 .1 (leb-true _ _ (both .1)); high = high↔ (t .sides .price) _ _ (t .sides .supplier) 0 .1 (omega arith); within = omega arith },
   λ s.
-      let h : getD costs (rowsOf us - 1) 0 ≤ t .price + getD costs 0 0 + t .supplier = omega (arith, high↔ (t .price) _ _ (t .supplier) 0 .0 (s .high)) in
+      let h : getD costs (rowsOf us - 1) 0 ≤ t .sides .price + getD costs 0 0 + t .sides .supplier = omega (arith, high↔ (t .sides .price) _ _ (t .sides .supplier) 0 .0 (s .high)) in
       rw (le-leb _ _ h) (le-leb _ _ (coins-low _ 0 .0 (s .low))),
 )

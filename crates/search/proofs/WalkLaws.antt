@@ -16,7 +16,7 @@ use Rattle.exchange.specs.Deal.{State, start}
 use Rattle.exchange.specs.Work.{Work}
 use Rattle.exchange.specs.Search.{need, fits, firstOf, forward, forwards}
 use Rattle.exchange.proofs.GivenOrder.Run.{state-eq}
-use Rattle.area.proofs.Laws.{entries-length}
+use Rattle.area.proofs.FilledLaws.{entries-same}
 use Rattle.search.specs.declared.Terms.{Terms}
 use Rattle.search.specs.Layers.{capOf, byteSays, mark, working, sumAt, Decoded, Read, Needs, firstRow, Written, CanWalk}
 use Rattle.search.proofs.CountLaws.{needs-none, all-rows}
@@ -88,7 +88,7 @@ decoded-more t values work at sums i v d l e = record { sum-is = λ a h. go a h 
     go a h (no n) = getD-set-other sums i a v 0 n ∙ d .sum-is a (omega arith)
 
 module _ (t : Terms) (values work : List ℕ) (j : ℕ) (sums : List ℕ) (some : 1 < t .rows) (few : t .rows ≤ 128) where
-  pub read-none : j ≡ 0 → sums ≡ set (replicate 128 mark) (t .rows - 1) (t .price) → Read t values work j sums
+  pub read-none : j ≡ 0 → sums ≡ set (replicate 128 mark) (t .rows - 1) (t .sides .price) → Read t values work j sums
   read-none z e =
       record { needs = λ us costs good named. rw (z, e) (needs-none (working t us costs values) (t .rows) (omega (arith, good .rows-are)) few) }
 
@@ -131,10 +131,6 @@ pub walking-start : (w : Work) (steps : ℕ) (places sums : List ℕ) → Walkin
 walking-start w steps places sums =
     record { front = []; counts = omega arith; whole = refl; places-are = written-none 2 places; sums-are = written-none 4 sums }
 
--- the entries of an area that has kept its length
-pub room : (w : ℕ) (s t : List ℕ) → length t ≡ length s → length (entries w t) ≡ length (entries w s)
-room w s t e = rw (entries-length, e, ← entries-length w s)
-
 module _ (w : Work) (rows : ℕ) (all : rows ≡ suc (w .last)) (arr : List ℕ) (m a paid : ℕ) (needs : Needs w m arr) where
   -- the row found is that of the step forward
   row-forward : firstRow w arr a paid 0 rows ≡ forward w mark m (record { place = a; paid = paid }) .place
@@ -155,9 +151,9 @@ module _ (w : Work) (rows : ℕ) (all : rows ≡ suc (w .last)) (arr : List ℕ)
           counts = omega (arith, h .counts);
           whole = rw (append-assoc (h .front) (t ∷ []) (forwards w mark m t)) (next ∙ h .whole);
           places-are = written-more 2 (λ s. s .place) (h .front) t places₀ places places′ k (h .places-are)
-              (omega (arith, room 2 places₀ places (h .places-are .length-kept), h .counts)) p;
+              (omega (arith, entries-same 2 places₀ places (h .places-are .length-kept), h .counts)) p;
           sums-are = written-more 4 (λ s. s .paid) (h .front) t sums₀ sums sums′ k (h .sums-are)
-              (omega (arith, room 4 sums₀ sums (h .sums-are .length-kept), h .counts)) q;
+              (omega (arith, entries-same 4 sums₀ sums (h .sums-are .length-kept), h .counts)) q;
         }
       where
         s : State

@@ -1,7 +1,7 @@
 -- The search as the code makes it: layer by layer, in each layer row by row, the best row so far.
 use mathlib.Core.Path.{_≡_}
 use mathlib.Core.Bool.{Bool, cond, _&&_}
-use mathlib.Core.List.{List}
+use mathlib.Core.List.{List, []}
 use Prim.Native.Nat.{ℕ, zero, suc, min, _+_, _-_, _*_, _≤_, _<_}
 use lib.Dec.{leb, ltb}
 use lib.ListN.{getD, length, take}
@@ -12,7 +12,6 @@ use Rattle.exchange.specs.Bounds.{upperOf, lowerOf}
 use Rattle.exchange.specs.Rule.{coins}
 use Rattle.exchange.specs.Forms.{table}
 use Rattle.exchange.specs.Search.{need, count, firstOf, fits}
-use Rattle.search.specs.Promise.{sides}
 use Rattle.search.specs.declared.Terms.{Terms}
 use Rattle.search.specs.declared.Best.{Best}
 
@@ -22,7 +21,7 @@ mark = 4294967296
 
 -- the working form of a table
 abbrev pub working : Terms → List ℕ → List ℕ → List ℕ → Work
-working t us costs values = workOf (table (sides (t .price) (t .supplier) (t .buyer)) us costs values)
+working t us costs values = workOf (table (t .sides) us costs values)
 
 -- the number of rows is that of these units, two or more, and at most 128
 pub record Table (t : Terms) (us : List ℕ) : Type 0 where
@@ -32,11 +31,23 @@ pub record Table (t : Terms) (us : List ℕ) : Type 0 where
 
 -- the most that is paid at row a: the smaller of upper and the price
 abbrev pub capOf : Terms → List ℕ → ℕ → ℕ
-capOf t costs a = min (coins (upperOf (t .price) (getD costs (t .rows - 1) 0) (getD costs a 0) (t .supplier))) (t .price)
+capOf t costs a = min (coins (upperOf (t .sides .price) (getD costs (t .rows - 1) 0) (getD costs a 0) (t .sides .supplier))) (t .sides .price)
 
 -- the least that is paid at row b: the greater of lower and 0
 abbrev pub floorOf : Terms → List ℕ → ℕ → ℕ
-floorOf t values b = coins (lowerOf (t .price) (getD values (t .rows - 1) 0) (getD values b 0) (t .buyer))
+floorOf t values b = coins (lowerOf (t .sides .price) (getD values (t .rows - 1) 0) (getD values b 0) (t .sides .buyer))
+
+-- the first i entries of an array are the floors of the rows
+pub record Floors (t : Terms) (values floors : List ℕ) (i : ℕ) : Type 0 where
+  pub floor-at : (b : ℕ) → b < i → getD floors b 0 ≡ floorOf t values b
+
+-- the working form, with the floors of the rows in an array
+abbrev pub withFloors : Work → List ℕ → Work
+withFloors w floors = record { price = w .price; last = w .last; cap = w .cap; floor = λ b. getD floors b 0; holds = w .holds }
+
+-- the same of a table: only the floors come from the values
+abbrev pub searched : Terms → List ℕ → List ℕ → List ℕ → Work
+searched t us costs floors = withFloors (working t us costs []) floors
 
 -- what a work byte says: the floor of the row that it names, or the mark
 abbrev pub byteSays : Terms → List ℕ → ℕ → ℕ
@@ -111,5 +122,5 @@ pub record CanWalk (t : Terms) (us costs values work : List ℕ) (steps : ℕ) (
 -- whether the start is safe: upper(0) is not below 0, and the floor of row 0 is 0
 unfoldable pub startTest : Terms → List ℕ → List ℕ → Bool
 startTest t costs values =
-    leb (getD costs (t .rows - 1) 0) (t .price + getD costs 0 0 + t .supplier)
+    leb (getD costs (t .rows - 1) 0) (t .sides .price + getD costs 0 0 + t .sides .supplier)
     && leb (floorOf t values 0) 0

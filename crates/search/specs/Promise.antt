@@ -1,21 +1,19 @@
 -- What planning a table promises.
 use mathlib.Core.Path.{_≡_}
 use mathlib.Core.Bool.{Bool, true, false, _&&_}
-use mathlib.Core.List.{List, map, _++_}
-use Prim.Native.Nat.{ℕ, _+_, _-_, _*_}
+use mathlib.Core.List.{List, map}
+use Prim.Native.Nat.{ℕ, _+_, _*_}
 use lib.Dec.{leb, ltb, eqb}
 use lib.ListN.{length, replicate}
-use Rattle.area.specs.Entries.{entries, remainder}
+use Rattle.area.specs.Entries.{entries}
+use Rattle.area.specs.Filled.{Filled}
 use Rattle.grid.specs.Rows.{rowsOf, rising}
 use Rattle.exchange.specs.Deal.{Deal, State, Plan}
-use Rattle.exchange.specs.Forms.{Sides, table}
+use Rattle.exchange.specs.Forms.{table}
 use Rattle.exchange.specs.Fewest.{Earliest}
 use Rattle.exchange.specs.Search.{mostSteps}
-use Rattle.search.specs.declared.Planned.{Planned}
-
--- P and the defection costs of the supplier and the buyer
-abbrev pub sides : ℕ → ℕ → ℕ → Sides
-sides p s b = record { price = p; supplier = s; buyer = b }
+use Rattle.exchange.specs.declared.Planned.{Planned}
+use Rattle.exchange.specs.declared.Sides.{Sides}
 
 -- no cost and no value falls as units are added
 pub record Rise (us costs values : List ℕ) : Type 0 where
@@ -28,12 +26,6 @@ suits us costs values places sums work =
     ltb 1 (rowsOf us) && leb (rowsOf us) 128 && eqb (length costs) (rowsOf us) && eqb (length values) (rowsOf us)
     && leb (mostSteps us) (length (entries 2 places)) && leb (mostSteps us) (length (entries 4 sums))
     && leb (rowsOf us * (mostSteps us + 1)) (length work)
-
--- an area of w-byte entries after planning: those of a plan, then zeros; a remainder too short for an entry stays
-pub record Filled (w : ℕ) (xs before after : List ℕ) : Type 0 where
-  pub entries-are : entries w after ≡ xs ++ replicate (length (entries w before) - length xs) 0
-  pub remainder-kept : remainder w after ≡ remainder w before
-  pub length-kept : length after ≡ length before
 
 -- n steps: of the plans with fewest steps the one with the earliest rows
 pub record Success (d : Deal) (n : ℕ) (places sums places′ sums′ : List ℕ) : Type 0 where

@@ -9,21 +9,14 @@ ghost use Rattle.grid.specs.Rows.{rowsOf};
 ghost use Rattle.exchange.specs.Deal.{start};
 ghost use Rattle.exchange.specs.Search.{forwards, mostSteps};
 ghost use Rattle.exchange.specs.Forms.{holdsRow};
-ghost use Rattle.search.specs.Promise.{Plans, sides, suits};
-ghost use Rattle.search.specs.Layers.{startTest, working, capOf, floorOf, byteSays, Table, mark, betterOf, scan, Filled, Same, Counted, Decoded, Read, firstRow, CanWalk, Written};
+ghost use Rattle.search.specs.Promise.{Plans, suits};
+ghost use Rattle.search.specs.Layers.{startTest, working, searched, capOf, floorOf, Floors, byteSays, Table, mark, betterOf, scan, Filled, Same, Counted, Decoded, Read, firstRow, CanWalk, Written};
+use exchange::Planned;
+use exchange::Sides;
 
-pub enum Planned {
-    Steps(usize),
-    Impossible,
-    // The rows, cells or areas do not suit.
-    Unfit,
-}
-
-// P and the defection costs of the supplier and the buyer, and the number of rows.
+// P and the defection costs, and the number of rows.
 struct Terms {
-    price: u32,
-    supplier: u32,
-    buyer: u32,
+    sides: Sides,
     rows: usize,
 }
 
@@ -56,7 +49,7 @@ fn cell(cells: &[u32], i: usize) -> u64
 }
 
 // Whether row b holds at least the units of row a of every item. Goes from the last item, which runs fastest, to the first.
-fn holds(units: &[u16], a: usize, b: usize) -> bool
+pub fn holds(units: &[u16], a: usize, b: usize) -> bool
     ensures { λ r. ⌜ r ≡ holdsRow (now (units .entry)) a b ⌝ }
 {
     let mut j = units.len();
@@ -81,15 +74,15 @@ fn cap(t: Terms, costs: &[u32], a: usize) -> u32
 {
     let last = t.rows - 1;
     let top = cell(costs, last);
-    let high = wide32(t.price) + cell(costs, a) + wide32(t.supplier);
+    let high = wide32(t.sides.price) + cell(costs, a) + wide32(t.sides.supplier);
     if high < top {
         return 0;
     }
     let room = high - top;
-    if room < wide32(t.price) {
+    if room < wide32(t.sides.price) {
         room as u32
     } else {
-        t.price
+        t.sides.price
     }
 }
 
@@ -99,8 +92,8 @@ fn floor(t: Terms, values: &[u32], b: usize) -> u64
     ensures { λ r. ⌜ r ≡ floorOf t (now (values .entry)) b ⌝ }
 {
     let last = t.rows - 1;
-    let high = wide32(t.price) + cell(values, b);
-    let low = cell(values, last) + wide32(t.buyer);
+    let high = wide32(t.sides.price) + cell(values, b);
+    let low = cell(values, last) + wide32(t.sides.buyer);
     if high < low {
         return 0;
     }
@@ -128,28 +121,42 @@ fn better(units: &[u16], a: usize, b: usize, cap: u64, need: u64, floor: u64, ol
     }
 }
 
-// The best row that can follow row a, by the sums of one step less.
+// The floors of all rows.
+fn all_floors(t: Terms, values: &[u32]) -> [u64; 128]
+    requires { ⌜ (0 < t .rows) × (t .rows ≤ 128) ⌝ }
+    ensures { λ r. ⌜ Floors t (now (values .entry)) r (t .rows) ⌝ }
+{
+    let rows = t.rows;
+    let mut floors: [u64; 128] = [0; 128];
+    let mut b: usize = 0;
+    while b < rows {
+        floors[b] = floor(t, values, b);
+        b += 1;
+    }
+    floors
+}
+
+// The best row that can follow row a, by the sums of one step less. No row below row a holds its units.
 fn choose(
     t: Terms,
     units: &[u16],
     costs: &[u32],
-    values: &[u32],
+    floors: &[u64; 128],
     sums: &[u64; 128],
     a: usize,
 ) -> Best
-    requires { ⌜ Table t (now units) ⌝ }
-    ensures { λ r. ⌜ r ≡ scan (working t (now (units .entry)) (now (costs .entry)) (now (values .entry))) (now (sums .entry)) a (t .rows) ⌝ }
+    requires { ⌜ Table t (now units) × (a < t .rows) ⌝ }
+    ensures { λ r. ⌜ r ≡ scan (searched t (now (units .entry)) (now (costs .entry)) (now (floors .entry))) (now (sums .entry)) a (t .rows) ⌝ }
 {
-    let rows = t.rows;
     let limit = wide32(cap(t, costs, a));
     let mut best = Best {
         row: 255,
         sum: UNREACHED,
     };
-    let mut b: usize = 0;
-    while b < rows {
+    let mut b = a;
+    while b < t.rows {
         let need = sums[b];
-        let least = floor(t, values, b);
+        let least = floors[b];
         best = better(units, a, b, limit, need, least, best);
         b += 1;
     }
@@ -161,19 +168,19 @@ fn layer(
     t: Terms,
     units: &[u16],
     costs: &[u32],
-    values: &[u32],
+    floors: &[u64; 128],
     sums: &[u64; 128],
     work: &mut [u8],
     at: usize,
 ) -> [u64; 128]
     requires { ⌜ Table t (now units) × (at + t .rows ≤ length (now work)) ⌝ }
-    ensures { λ r. ⌜ Filled (working t (now (units .entry)) (now (costs .entry)) (now (values .entry))) (now (sums .entry)) (t .rows) at (now (work .entry)) (now (work .exit)) r (t .rows) ⌝ }
+    ensures { λ r. ⌜ Filled (searched t (now (units .entry)) (now (costs .entry)) (now (floors .entry))) (now (sums .entry)) (t .rows) at (now (work .entry)) (now (work .exit)) r (t .rows) ⌝ }
 {
     let rows = t.rows;
     let mut next = [UNREACHED; 128];
     let mut a: usize = 0;
     while a < rows {
-        let best = choose(t, units, costs, values, sums, a);
+        let best = choose(t, units, costs, floors, sums, a);
         next[a] = best.sum;
         work[at + a] = best.row;
         a += 1;
@@ -184,11 +191,11 @@ fn layer(
 // The sums of no step: the price at the last row.
 fn first_sums(t: Terms) -> [u64; 128]
     requires { ⌜ (1 < t .rows) × (t .rows ≤ 128) ⌝ }
-    ensures { λ r. ⌜ r ≡ set (replicate 128 mark) (t .rows - 1) (t .price) ⌝ }
+    ensures { λ r. ⌜ r ≡ set (replicate 128 mark) (t .rows - 1) (t .sides .price) ⌝ }
 {
     let mut sums = [UNREACHED; 128];
     let last = t.rows - 1;
-    sums[last] = wide32(t.price);
+    sums[last] = wide32(t.sides.price);
     sums
 }
 
@@ -220,11 +227,12 @@ fn count_steps(
     ensures { λ r. ⌜ Counted (working t (now (units .entry)) (now (costs .entry)) (now (values .entry))) (t .rows) most (now (work .exit)) r ⌝ }
 {
     let rows = t.rows;
+    let floors = all_floors(t, values);
     let mut sums = first_sums(t);
     let mut at = rows;
     let mut j: usize = 0;
     while j < most {
-        let next = layer(t, units, costs, values, &sums, work, at);
+        let next = layer(t, units, costs, &floors, &sums, work, at);
         j += 1;
         if next[0] == 0 {
             return j;
@@ -412,7 +420,7 @@ fn starts(t: Terms, costs: &[u32], values: &[u32]) -> bool
     ensures { λ r. ⌜ r ≡ startTest t (now (costs .entry)) (now (values .entry)) ⌝ }
 {
     let last = t.rows - 1;
-    let high = wide32(t.price) + cell(costs, 0) + wide32(t.supplier);
+    let high = wide32(t.sides.price) + cell(costs, 0) + wide32(t.sides.supplier);
     if high < cell(costs, last) {
         return false;
     }
@@ -425,9 +433,7 @@ fn starts(t: Terms, costs: &[u32], values: &[u32]) -> bool
 // Plans a table with fewest steps over all orders. The cells rise as units are added, as the record reader promises. Without a plan the
 // areas of places and sums stay.
 pub fn plan(
-    price: u32,
-    supplier: u32,
-    buyer: u32,
+    sides: Sides,
     units: &[u16],
     costs: &[u32],
     values: &[u32],
@@ -435,16 +441,14 @@ pub fn plan(
     sums: &mut [u8],
     work: &mut [u8],
 ) -> Planned
-    ensures { λ r. ⌜ Plans (sides price supplier buyer) (now (units .entry)) (now (costs .entry)) (now (values .entry)) r (now (places .entry)) (now (sums .entry)) (now (work .entry)) (now (places .exit)) (now (sums .exit)) (now (work .exit)) ⌝ }
+    ensures { λ r. ⌜ Plans sides (now (units .entry)) (now (costs .entry)) (now (values .entry)) r (now (places .entry)) (now (sums .entry)) (now (work .entry)) (now (places .exit)) (now (sums .exit)) (now (work .exit)) ⌝ }
 {
     let most = most_steps(units, costs, values, places, sums, work);
     if most == 0 {
         return Planned::Unfit;
     }
     let t = Terms {
-        price,
-        supplier,
-        buyer,
+        sides,
         rows: grid::row_count(units),
     };
     if !starts(t, costs, values) {

@@ -1,6 +1,6 @@
 -- `choice::choose` meets its contract. Assumes nothing.
 use borrow.Author.Needs.{needs}
-use Rattle.exchange.specs.Forms.{Sides}
+use Rattle.exchange.specs.declared.Sides.{Sides}
 use Rattle.choice.proofs.JoinLaws.{too-many, not-all, all}
 use Rattle.choice.proofs.choose.Statement.{statement}
 use Rattle.choice.proofs.choose.Tie as tie

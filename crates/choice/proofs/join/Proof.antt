@@ -5,13 +5,13 @@ use Prim.Native.Nat.{ℕ, _-_, _≤_}
 use native.Mathlib.Omega.{arith}
 use lib.ListN.{drop}
 use Rattle.choice.specs.Ends.{Holds}
-use Rattle.choice.specs.Promise.{padded}
+use Rattle.choice.specs.Promise.{numbered}
 use Rattle.choice.proofs.JoinLaws.{join-none, join-next}
 use Rattle.choice.proofs.join.Statement.{statement}
 use Rattle.choice.proofs.join.Tie as tie
 
 abbrev Inv-loop : tie.InvT-loop
-Inv-loop count back more items₀ k₀ items k = (k ≤ more) × ((f b : List ℕ) → Holds f items₀ count → Holds b back more → items ≡ padded (f ++ reverse (drop (more - k) b)))
+Inv-loop count back more items₀ k₀ items k = (k ≤ more) × ((f b : List ℕ) → Holds f items₀ count → Holds b back more → items ≡ numbered (f ++ reverse (drop (more - k) b)))
 
 abbrev μ-loop : tie.MeasureT-loop
 μ-loop count back more items₀ k₀ items k = more - k

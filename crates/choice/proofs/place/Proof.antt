@@ -30,6 +30,9 @@ array-write-todo c = search needs
 cast-items : tie.Need-cast-items Inv-loop μ-loop
 cast-items c = search needs
 
+add-items : tie.Need-add-items Inv-loop μ-loop
+add-items c = search needs
+
 array-write-items : tie.Need-array-write-items Inv-loop μ-loop
 array-write-items c = search needs
 
@@ -74,6 +77,7 @@ place-spec =
     find-best-requires
     array-write-todo
     cast-items
+    add-items
     array-write-items
     add-count
     block-requires

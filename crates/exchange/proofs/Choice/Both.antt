@@ -2,7 +2,7 @@
 -- Assumes nothing.
 use mathlib.Core.Path.{_≡_, refl, sym, ap, _∙_}
 use mathlib.Core.Bool.{Bool, true, false, not}
-use mathlib.Core.Logic.{_⊎_, ⊎-elim, dite}
+use mathlib.Core.Logic.{⊎-elim, dite}
 use mathlib.Core.List.{List, [], _∷_, _++_, reverse, reverse-cons, reverse-append, append-nil}
 use Prim.Native.Nat.{ℕ, zero, suc, _+_, _≤_, _<_}
 use native.Mathlib.Nat.{le-of-lt}
@@ -11,8 +11,9 @@ use native.Mathlib.Decide.{decLt, ℕ-discrete}
 use native.Mathlib.Omega.{arith}
 use lib.ListN.{length, replicate, replicate-append-replicate, List·getD-eq-default}
 use borrow.Author.Tests.{leb-true, leb-false, not-true, not-false}
-use Rattle.exchange.specs.Forms.{Sides, occurs, Order}
+use Rattle.exchange.specs.Forms.{occurs, Order}
 use Rattle.exchange.specs.Choice.{at, together, sumOver, allItems, comesFirst, placed, front, back, bothEnds}
+use Rattle.exchange.specs.declared.Sides.{Sides}
 use Rattle.exchange.proofs.Choice.Sums.{num, sum, bool-cases, occurs-append, occurs-reverse, occurs-together, sum-append, sum-reverse, sum-order}
 use Rattle.exchange.proofs.Choice.Sums.{tally, tally-length, tally-once, tally-full}
 use Rattle.exchange.proofs.Choice.Room.{Allowed, allowed-append, allowed-mirror}

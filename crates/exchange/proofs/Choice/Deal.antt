@@ -10,9 +10,10 @@ use lib.ListN.{length}
 use lib.Signed.{_≤ℤ_}
 use Rattle.exchange.specs.Bounds.{Terms, upperOf, lowerOf}
 use Rattle.exchange.specs.Deal.{Safe}
-use Rattle.exchange.specs.Forms.{Sides, along, inOrder, Order}
+use Rattle.exchange.specs.Forms.{along, inOrder, Order}
 use Rattle.exchange.specs.Possible.{Possible}
 use Rattle.exchange.specs.Choice.{at, sumOver, allItems}
+use Rattle.exchange.specs.declared.Sides.{Sides}
 use Rattle.exchange.proofs.Int.{≤-sub}
 use Rattle.exchange.proofs.BoundLaws.{upper-is, lower-is, safe↔}
 use Rattle.exchange.proofs.Choice.Sums.{along-all, along-none, sum-order}

@@ -15,7 +15,8 @@ use Rattle.exchange.proofs.TablePlan.Forward.{Ready, forwards-steps, fo
 use Rattle.exchange.proofs.TablePlan.Short.{UnitsRise, short}
 
 module _ (w : Work) (mark most : ℕ) where
-  count-is : IsFirst (λ j. leb (need w mark j 0) 0) 1 most (count w mark most)
+  -- the first number of steps, from 1 to most, after which the start needs no payment
+  pub count-is : IsFirst (λ j. leb (need w mark j 0) 0) 1 most (count w mark most)
   unfolding count
   count-is = first-is (λ j. leb (need w mark j 0) 0) 1 most
 

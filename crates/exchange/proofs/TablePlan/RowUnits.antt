@@ -1,4 +1,5 @@
--- The units of a row: a row that holds the units of another row has more of them, and the last row has them all. Assumes nothing.
+-- The units of a row: a row that holds the units of another row has more of them and a higher number, and the last row has them all.
+-- Assumes nothing.
 use mathlib.Core.Path.{_≡_, refl, ap, _∙_}
 use mathlib.Core.List.{List, [], _∷_, foldr}
 use Prim.Native.Nat.{ℕ, suc, _+_, _-_, _*_, _/_, _%_, _≤_, _<_}
@@ -63,6 +64,20 @@ units-rise us a b ha hb t n = go (decLt (unitsOf us a) (unitsOf us b))
     go : Dec (unitsOf us a < unitsOf us b) → unitsOf us a < unitsOf us b
     go (yes l) = l
     go (no m) = absurd (n (rw (mod-eq-of-lt ha, mod-eq-of-lt hb) at (same-row us a b t (omega arith))))
+
+-- a row that holds the units of another row stands no earlier in its round
+round-le : (us : List ℕ) (a b : ℕ) → T (holdsRow us a b) → a % rowsOf us ≤ b % rowsOf us
+unfolding rowsOf
+round-le [] a b t = rw (mod-one a, mod-one b) (le-refl 0)
+round-le (u ∷ us) a b t =
+    let R = rowsOf us in
+    let m : a / R % (u + 1) * R ≤ b / R % (u + 1) * R = mul-le-mul-right R (first-item u us a b t) in
+    let y : a % R ≤ b % R = round-le us a b (other-items u us a b t) in
+    rw (row-is u a us, row-is u b us) (omega arith)
+
+-- so its number is no lower
+pub holds-rises : (us : List ℕ) (a b : ℕ) → a < rowsOf us → b < rowsOf us → T (holdsRow us a b) → a ≤ b
+holds-rises us a b ha hb t = rw (mod-eq-of-lt ha, mod-eq-of-lt hb) at (round-le us a b t)
 
 -- the last row of every round of the items has all units
 round-units : (us : List ℕ) (k : ℕ) → unitsOf us (k * rowsOf us + (rowsOf us - 1)) ≡ foldr _+_ 0 us

@@ -28,7 +28,7 @@ add-high-2 c = search needs
 returns : tie.Need-returns
 returns c =
     let x = c .before .before .before .before .before .before .before .args in
-    rw (coins-upper (x .t .price) _ _ (x .t .supplier)) (omega (arith, c .before .before .before .before .cell .ensures .0, c .before .before .cell2 .ensures .0, c .before .before .before .wide32 .ensures .0, c .before .wide322 .ensures .0, c .if1 .taken))
+    rw (coins-upper (x .t .sides .price) _ _ (x .t .sides .supplier)) (omega (arith, c .before .before .before .before .cell .ensures .0, c .before .before .cell2 .ensures .0, c .before .before .before .wide32 .ensures .0, c .before .wide322 .ensures .0, c .if1 .taken))
 
 wide32-requires-3 : tie.Need-wide32-requires-3
 wide32-requires-3 c κs = search needs
@@ -39,12 +39,12 @@ cast-result c = search needs
 returns-2 : tie.Need-returns-2
 returns-2 c =
     let x = c .before .before .before .before .before .before .before .before .before .args in
-    rw (coins-upper (x .t .price) _ _ (x .t .supplier)) (omega (arith, c .before .before .before .before .before .before .cell .ensures .0, c .before .before .before .before .cell2 .ensures .0, c .before .before .before .before .before .wide32 .ensures .0, c .before .before .before .wide322 .ensures .0, c .before .wide323 .ensures .0, c .if2 .taken, c .before .before .if1 .left))
+    rw (coins-upper (x .t .sides .price) _ _ (x .t .sides .supplier)) (omega (arith, c .before .before .before .before .before .before .cell .ensures .0, c .before .before .before .before .cell2 .ensures .0, c .before .before .before .before .before .wide32 .ensures .0, c .before .before .before .wide322 .ensures .0, c .before .wide323 .ensures .0, c .if2 .taken, c .before .before .if1 .left))
 
 returns-3 : tie.Need-returns-3
 returns-3 c =
     let x = c .before .before .before .before .before .before .before .before .before .args in
-    rw (coins-upper (x .t .price) _ _ (x .t .supplier)) (omega (arith, c .before .before .before .before .before .before .cell .ensures .0, c .before .before .before .before .cell2 .ensures .0, c .before .before .before .before .before .wide32 .ensures .0, c .before .before .before .wide322 .ensures .0, c .before .wide323 .ensures .0, c .if2 .left, c .before .before .if1 .left))
+    rw (coins-upper (x .t .sides .price) _ _ (x .t .sides .supplier)) (omega (arith, c .before .before .before .before .before .before .cell .ensures .0, c .before .before .before .before .cell2 .ensures .0, c .before .before .before .before .before .wide32 .ensures .0, c .before .before .before .wide322 .ensures .0, c .before .wide323 .ensures .0, c .if2 .left, c .before .before .if1 .left))
 
 pub cap-spec : {M : Type 1} → statement M
 cap-spec =

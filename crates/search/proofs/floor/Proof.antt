@@ -28,12 +28,12 @@ add-low c = search needs
 returns : tie.Need-returns
 returns c =
     let x = c .before .before .before .before .before .before .before .args in
-    rw (coins-lower (x .t .price) _ _ (x .t .buyer)) (omega (arith, c .before .before .before .cell .ensures .0, c .before .before .cell2 .ensures .0, c .before .before .before .before .wide32 .ensures .0, c .before .wide322 .ensures .0, c .if1 .taken))
+    rw (coins-lower (x .t .sides .price) _ _ (x .t .sides .buyer)) (omega (arith, c .before .before .before .cell .ensures .0, c .before .before .cell2 .ensures .0, c .before .before .before .before .wide32 .ensures .0, c .before .wide322 .ensures .0, c .if1 .taken))
 
 returns-2 : tie.Need-returns-2
 returns-2 c =
     let x = c .before .before .before .before .before .before .before .args in
-    rw (coins-lower (x .t .price) _ _ (x .t .buyer)) (omega (arith, c .before .before .before .cell .ensures .0, c .before .before .cell2 .ensures .0, c .before .before .before .before .wide32 .ensures .0, c .before .wide322 .ensures .0, c .if1 .left))
+    rw (coins-lower (x .t .sides .price) _ _ (x .t .sides .buyer)) (omega (arith, c .before .before .before .cell .ensures .0, c .before .before .cell2 .ensures .0, c .before .before .before .before .wide32 .ensures .0, c .before .wide322 .ensures .0, c .if1 .left))
 
 pub floor-spec : {M : Type 1} → statement M
 floor-spec =

@@ -33,7 +33,7 @@ starts-requires c κs =
     let m = c .before .before .most-steps in
     let r = c .row-count in
     let x = c .before .before .before .before .before .before .before .before .before .before .before .before .args in
-    let f : Fitted (record { price = x .price; supplier = x .supplier; buyer = x .buyer; rows = r .result }) (now (x .units)) (now (x .costs)) (now (x .values)) (now (x .places)) (now (x .sums)) (now (x .work)) (m .result) =
+    let f : Fitted (record { sides = x .sides; rows = r .result }) (now (x .units)) (now (x .costs)) (now (x .values)) (now (x .places)) (now (x .sums)) (now (x .work)) (m .result) =
     fitted (m .ensures) (c .before .if1 .left) (r .ensures) in
     omega (arith, f .good .some)
 
@@ -53,7 +53,7 @@ returns-2 : tie.Need-returns-2
 returns-2 c =
     let m = c .before .before .before .before .before .before .before .before .most-steps in
     let x = c .before .before .before .before .before .before .before .before .before .before .before .before .before .before .before .before .before .before .args in
-    let f : Fitted (record { price = x .price; supplier = x .supplier; buyer = x .buyer; rows = c .before .before .before .before .before .before .row-count .result }) (now (x .units)) (now (x .costs)) (now (x .values)) (now (x .places)) (now (x .sums)) (now (x .work)) (m .result) =
+    let f : Fitted (record { sides = x .sides; rows = c .before .before .before .before .before .before .row-count .result }) (now (x .units)) (now (x .costs)) (now (x .values)) (now (x .places)) (now (x .sums)) (now (x .work)) (m .result) =
     fitted (m .ensures) (c .before .before .before .before .before .before .before .if1 .left) (c .before .before .before .before .before .before .row-count .ensures) in
     λ r. (suits-yes (now (x .units)) (now (x .costs)) (now (x .values)) (now (x .places)) (now (x .sums)) (now (x .work)) (f .suit), (no-start f (sym (c .before .before .before .before .before .starts .ensures) ∙ not-true (c .before .before .before .before .before .starts .result) (c .before .before .before .before .if2 .taken)) r, (refl, (refl, c .before .before .clear .ensures))))
 
@@ -62,7 +62,7 @@ count-steps-requires c κs =
     let m = c .before .before .before .before .before .most-steps in
     let r = c .before .before .before .row-count in
     let x = c .before .before .before .before .before .before .before .before .before .before .before .before .before .before .before .args in
-    let f : Fitted (record { price = x .price; supplier = x .supplier; buyer = x .buyer; rows = r .result }) (now (x .units)) (now (x .costs)) (now (x .values)) (now (x .places)) (now (x .sums)) (now (x .work)) (m .result) =
+    let f : Fitted (record { sides = x .sides; rows = r .result }) (now (x .units)) (now (x .costs)) (now (x .values)) (now (x .places)) (now (x .sums)) (now (x .work)) (m .result) =
     fitted (m .ensures) (c .before .before .before .before .if1 .left) (r .ensures) in
     (f .good, work-suits f)
 
@@ -83,7 +83,7 @@ returns-3 c =
     let m = c .before .before .before .before .before .before .before .before .before .before .before .before .before .most-steps in
     let n = c .before .before .before .before .before .before .before .count-steps in
     let x = c .before .before .before .before .before .before .before .before .before .before .before .before .before .before .before .before .before .before .before .before .before .before .before .args in
-    let f : Fitted (record { price = x .price; supplier = x .supplier; buyer = x .buyer; rows = c .before .before .before .before .before .before .before .before .before .before .before .row-count .result }) (now (x .units)) (now (x .costs)) (now (x .values)) (now (x .places)) (now (x .sums)) (now (x .work)) (m .result) =
+    let f : Fitted (record { sides = x .sides; rows = c .before .before .before .before .before .before .before .before .before .before .before .row-count .result }) (now (x .units)) (now (x .costs)) (now (x .values)) (now (x .places)) (now (x .sums)) (now (x .work)) (m .result) =
     fitted (m .ensures) (c .before .before .before .before .before .before .before .before .before .before .before .before .if1 .left) (c .before .before .before .before .before .before .before .before .before .before .before .row-count .ensures) in
     λ r. (suits-yes (now (x .units)) (now (x .costs)) (now (x .values)) (now (x .places)) (now (x .sums)) (now (x .work)) (f .suit), (no-count f (n .ensures) (c .before .before .before .before .if3 .taken) r, (refl, (refl, rw (← n .kept .1 .1 .1 .1 .1 .0) (c .before .before .clear2 .ensures)))))
 
@@ -93,7 +93,7 @@ walk-requires c κs =
     let r = c .before .before .before .before .before .before .before .before .before .before .row-count in
     let n = c .before .before .before .before .before .before .count-steps in
     let x = c .before .before .before .before .before .before .before .before .before .before .before .before .before .before .before .before .before .before .before .before .before .before .args in
-    let f : Fitted (record { price = x .price; supplier = x .supplier; buyer = x .buyer; rows = r .result }) (now (x .units)) (now (x .costs)) (now (x .values)) (now (x .places)) (now (x .sums)) (now (x .work)) (m .result) =
+    let f : Fitted (record { sides = x .sides; rows = r .result }) (now (x .units)) (now (x .costs)) (now (x .values)) (now (x .places)) (now (x .sums)) (now (x .work)) (m .result) =
     fitted (m .ensures) (c .before .before .before .before .before .before .before .before .before .before .before .if1 .left) (r .ensures) in
     can-walk f (n .ensures) (c .before .before .before .if3 .left) (n .kept .1 .1 .1 .1 .1 .0)
 
@@ -120,7 +120,7 @@ returns-4 c =
     let m = c .before .before .before .before .before .before .before .before .before .before .before .before .before .before .before .before .before .before .before .before .before .before .before .before .before .before .before .before .before .most-steps in
     let n = c .before .before .before .before .before .before .before .before .before .before .before .before .before .before .before .before .before .before .before .before .before .before .before .count-steps in
     let x = c .before .before .before .before .before .before .before .before .before .before .before .before .before .before .before .before .before .before .before .before .before .before .before .before .before .before .before .before .before .before .before .before .before .before .before .before .before .before .before .args in
-    let f : Fitted (record { price = x .price; supplier = x .supplier; buyer = x .buyer; rows = c .before .before .before .before .before .before .before .before .before .before .before .before .before .before .before .before .before .before .before .before .before .before .before .before .before .before .before .row-count .result }) (now (x .units)) (now (x .costs)) (now (x .values)) (now (x .places)) (now (x .sums)) (now (x .work)) (m .result) =
+    let f : Fitted (record { sides = x .sides; rows = c .before .before .before .before .before .before .before .before .before .before .before .before .before .before .before .before .before .before .before .before .before .before .before .before .before .before .before .row-count .result }) (now (x .units)) (now (x .costs)) (now (x .values)) (now (x .places)) (now (x .sums)) (now (x .work)) (m .result) =
     fitted (m .ensures) (c .before .before .before .before .before .before .before .before .before .before .before .before .before .before .before .before .before .before .before .before .before .before .before .before .before .before .before .before .if1 .left) (c .before .before .before .before .before .before .before .before .before .before .before .before .before .before .before .before .before .before .before .before .before .before .before .before .before .before .before .row-count .ensures) in
     λ r. (
       suits-yes (now (x .units)) (now (x .costs)) (now (x .values)) (now (x .places)) (now (x .sums)) (now (x .work)) (f .suit),

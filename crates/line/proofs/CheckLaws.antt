@@ -1,0 +1,144 @@
+-- A brought plan along segments, followed step by step. Assumes nothing.
+use mathlib.Core.Path.{_≡_, refl, sym, ap, _∙_, subst}
+use mathlib.Core.Logic.{_↔_}
+use mathlib.Core.Bool.{Bool, true, false, not, _&&_, and-eq-true-iff}
+use mathlib.Core.List.{List}
+use Prim.Native.Nat.{ℕ, _+_, _≤_, _<_}
+use native.Mathlib.Omega.{arith}
+use native.Mathlib.Numerals.{add-one}
+use borrow.Author.Tests.{eqb-true, eq-eqb, leb-true, le-leb, not-true, not-false}
+use lib.Dec.{T, eqb}
+use lib.Ieee.Bits.{is-true}
+use lib.ListN.{length, getD}
+use Rattle.area.specs.Entries.{entries}
+use Rattle.exchange.specs.Deal.{State, Step, Steps, Plan, start, ends}
+use Rattle.exchange.specs.PlanIn.{planIn}
+use Rattle.exchange.specs.Test.{boundsAt, stepTest}
+use Rattle.exchange.proofs.GivenOrder.Run.{state-eq}
+use Rattle.exchange.proofs.PlanInLaws.{entryIn, plan-none, plan-step, plan-next, plan-end}
+use Rattle.exchange.proofs.TestLaws.{step↔}
+use Rattle.line.specs.Segments.{spread, fits, dealAlong}
+use Rattle.line.specs.CheckPromise.{holdsCount}
+use Rattle.line.specs.Code.{Fit, Known, At, origin}
+use Rattle.line.specs.CheckCode.{Ahead, There, Brought, Judges, cursorBounds}
+use Rattle.line.specs.declared.Cursor.{Cursor}
+use Rattle.exchange.specs.declared.Sides.{Sides}
+use Rattle.line.specs.declared.Totals.{Totals}
+use Rattle.line.proofs.SegmentLaws.{at-origin, fits↔, not-so}
+use Rattle.line.proofs.PlaceLaws.{cursor-bounds}
+
+-- ---- a brought plan, step by step
+
+module _ (s : Sides) (us cs vs : List ℕ) (n : ℕ) (places sums : List ℕ) where
+  -- the first i entries are steps, and the cursor and the payment stand after them
+  pub record Passed (c : Cursor) (paid i : ℕ) : Type 0 where
+    pub within : i ≤ n
+    pub at : At us cs vs c
+    pub steps : Steps (dealAlong s us cs vs) start (planIn i places sums)
+    pub state-is : ends start (planIn i places sums) ≡ record { place = c .place; paid = paid }
+
+  none : (Plan (dealAlong s us cs vs) (planIn n places sums) → ⊥) → Judges (dealAlong s us cs vs) (planIn n places sums) false
+  none f = record { yes = λ e. absurd (subst T (sym e) tt); no = λ _. f }
+
+  module _ (t : Totals) (b : Brought us cs vs t n places sums) where
+    pub passed-start : (c : Cursor) → c ≡ origin → Passed c 0 0
+    passed-start c o =
+        rw o (record { within = omega arith; at = at-origin us cs vs (b .known .fit); steps = rw (plan-none places sums) tt; state-is = rw (plan-none places sums) })
+
+    module _ {c : Cursor} {paid i : ℕ} (g : Passed c paid i) where
+      -- the test of the end
+      pub passed-all : n ≤ i → {r : Bool} → r ≡ (eqb (c .place) (t .units) && eqb paid (s .price))
+          → Judges (dealAlong s us cs vs) (planIn n places sums) r
+      passed-all h {r} e =
+          let same : i ≡ n = omega (arith, g .within) in
+          let there = subst (λ (j : ℕ). ends start (planIn j places sums) ≡ record { place = c .place; paid = paid }) same (g .state-is) in
+          record {
+            yes =
+                λ q.
+                let f = and-eq-true-iff _ _ .0 (sym e ∙ q) in
+                record {
+                  steps = subst (λ (j : ℕ). Steps (dealAlong s us cs vs) start (planIn j places sums)) same (g .steps);
+                  arrives = there ∙ state-eq (eqb-true _ _ (f .0) ∙ b .known .units-are) (eqb-true _ _ (f .1));
+                };
+            no =
+                λ q p.
+                let f = sym there ∙ p .arrives in
+                let yes : r ≡ true =
+                e ∙ rw (eq-eqb _ _ (ap (λ (u : State). u .place) f ∙ sym (b .known .units-are)), eq-eqb _ _ (ap (λ (u : State). u .paid) f)) in
+                subst T (sym yes ∙ q) tt;
+          }
+
+      module _ (h : i < n) {place sum : ℕ} (ep : place ≡ getD (entries 2 places) i 0) (es : sum ≡ getD (entries 4 sums) i 0) where
+        entry : entryIn places sums i ≡ record { place = place; paid = sum }
+        entry = state-eq (sym ep) (sym es)
+
+        -- a plan has a step here
+        step-here : Plan (dealAlong s us cs vs) (planIn n places sums)
+            → Step (dealAlong s us cs vs) (record { place = c .place; paid = paid }) (record { place = place; paid = sum })
+        step-here p =
+            rw (← g .state-is, ← entry) (plan-step places sums n (b .places-hold) (b .sums-hold) (Step (dealAlong s us cs vs)) start (p .steps) i h)
+
+        pub falls : place < c .place → Judges (dealAlong s us cs vs) (planIn n places sums) false
+        falls l = none (λ p. let q : c .place ≤ place = leb-true _ _ (is-true _ (step-here p .delivers)) in absurd (omega arith))
+
+        pub above : t .units < place → Judges (dealAlong s us cs vs) (planIn n places sums) false
+        above l = none (λ p. let q : place ≤ length (spread us cs) = step-here p .in-deal in absurd (omega (arith, b .known .units-are)))
+
+        module _ (l : c .place ≤ place) (m : place ≤ t .units) where
+          pub ahead : Ahead us cs vs c place
+          ahead = record { fit = b .known .fit; at = g .at; from = l; within = omega (arith, b .known .units-are) }
+
+          module _ {to : Cursor} (a : There us cs vs to place) {r : Bool} (e : r ≡ stepTest true (cursorBounds s t c) (cursorBounds s t to) paid sum (s .price)) where
+            -- the test of the step
+            tested : (r ≡ true) ↔ Step (dealAlong s us cs vs) (record { place = c .place; paid = paid }) (record { place = place; paid = sum })
+            tested =
+                let d = dealAlong s us cs vs in
+                let q = step↔ d (record { place = c .place; paid = paid }) (record { place = place; paid = sum }) (omega (arith, b .known .units-are)) in
+                let f : r ≡ stepTest (d .holds (c .place) place) (boundsAt d (c .place)) (boundsAt d place) paid sum (s .price) =
+                e ∙ rw (cursor-bounds s us cs vs t (b .known) c (g .at), cursor-bounds s us cs vs t (b .known) to (a .at), a .place-is, le-leb _ _ l) in
+                (λ y. q .0 (sym f ∙ y), λ y. f ∙ q .1 y)
+
+            pub refused : not r ≡ true → Judges (dealAlong s us cs vs) (planIn n places sums) false
+            refused y = none (λ p. subst T (sym (tested .1 (step-here p)) ∙ not-true r y) tt)
+
+            pub passed-next : not r ≡ false → Passed to sum (i + 1)
+            passed-next y =
+                let d = dealAlong s us cs vs in
+                let hp : i < length (entries 2 places) = omega (arith, b .places-hold) in
+                let hs : i < length (entries 4 sums) = omega (arith, b .sums-hold) in
+                rw (add-one i)
+                (record {
+                  within = h;
+                  at = a .at;
+                  steps = plan-next places sums i hp hs (Step d) start (g .steps) (rw (g .state-is, entry) (tested .0 (not-false r y)));
+                  state-is = plan-end places sums i hp hs start ∙ entry ∙ state-eq (sym (a .place-is)) refl;
+                })
+
+-- ---- which plans can be read
+
+module _ (us cs vs : List ℕ) (n : ℕ) (places sums : List ℕ) where
+  holds↔ : (holdsCount us cs vs n places sums ≡ true) ↔ (Fit us cs vs × (n ≤ length (entries 2 places)) × (n ≤ length (entries 4 sums)))
+  unfolding holdsCount
+  holds↔ = (
+    λ e.
+        let f = and-eq-true-iff _ _ .0 e in
+        let g = and-eq-true-iff (fits us cs vs) _ .0 (f .0) in
+        (fits↔ us cs vs .0 (g .0), leb-true _ _ (g .1), leb-true _ _ (f .1)),
+    λ h. rw (fits↔ us cs vs .1 (h .0), le-leb _ _ (h .1)) (le-leb _ _ (h .2)),
+  )
+
+  pub unfit-segments : fits us cs vs ≡ false → holdsCount us cs vs n places sums ≡ false
+  unfit-segments e = not-so _ (λ h. subst T (sym (fits↔ us cs vs .1 (holds↔ .0 h .0)) ∙ e) tt)
+
+  pub short-places : {m : ℕ} → m ≡ length (entries 2 places) → m < n → holdsCount us cs vs n places sums ≡ false
+  short-places {m} e h = not-so _ (λ q. let r = holds↔ .0 q .1 in omega arith)
+
+  pub short-sums : {m : ℕ} → m ≡ length (entries 4 sums) → m < n → holdsCount us cs vs n places sums ≡ false
+  short-sums {m} e h = not-so _ (λ q. let r = holds↔ .0 q .2 in omega arith)
+
+  pub brought : (t : Totals) → Known us cs vs t → {m l : ℕ} → m ≡ length (entries 2 places) → n ≤ m → l ≡ length (entries 4 sums) → n ≤ l
+      → Brought us cs vs t n places sums
+  brought t k {m} {l} e h f g = record { known = k; places-hold = omega arith; sums-hold = omega arith }
+
+  pub brought-holds : (t : Totals) → Brought us cs vs t n places sums → holdsCount us cs vs n places sums ≡ true
+  brought-holds t b = holds↔ .1 (b .known .fit, b .places-hold, b .sums-hold)

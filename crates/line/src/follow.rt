@@ -1,0 +1,60 @@
+// Follows a brought plan along the segments.
+ghost use mathlib.Core.Path.{_≡_};
+ghost use mathlib.Core.Bool.{true};
+ghost use Rattle.exchange.specs.PlanIn.{planIn};
+ghost use Rattle.exchange.specs.Test.{stepTest};
+ghost use Rattle.line.specs.Segments.{dealAlong};
+ghost use Rattle.line.specs.CheckCode.{Brought, Judges, cursorBounds};
+use super::Cursor;
+use super::Totals;
+use super::arrived;
+use super::first;
+use super::place::advance;
+use super::place::bounds_at;
+use exchange::Sides;
+
+// Whether it is a step from one cursor with p paid on to another with q paid: all four states are safe.
+fn is_step(sides: Sides, t: Totals, from: Cursor, to: Cursor, p: u32, q: u32) -> bool
+    ensures { λ r. ⌜ r ≡ stepTest true (cursorBounds sides t from) (cursorBounds sides t to) p q (sides .price) ⌝ }
+{
+    let a = bounds_at(sides, t, from);
+    let b = bounds_at(sides, t, to);
+    exchange::step(true, a, b, p, q, sides.price)
+}
+
+// Whether the first entries of the areas are steps from the start to the end.
+pub(crate) fn follows(
+    sides: Sides,
+    t: Totals,
+    units: &[u16],
+    costs: &[u32],
+    values: &[u32],
+    count: usize,
+    places: &[u8],
+    sums: &[u8],
+) -> bool
+    requires { ⌜ Brought (now units) (now costs) (now values) t count (now places) (now sums) ⌝ }
+    ensures { λ r. ⌜ Judges (dealAlong sides (now (units .entry)) (now (costs .entry)) (now (values .entry))) (planIn count (now (places .entry)) (now (sums .entry))) r ⌝ }
+{
+    let mut c = first();
+    let mut paid = 0;
+    let mut i = 0;
+    while i < count {
+        let place = area::entry_u16(places, i) as usize;
+        let sum = area::entry_u32(sums, i);
+        if place < c.place {
+            return false;
+        }
+        if t.units < place {
+            return false;
+        }
+        let to = advance(units, costs, values, c, place);
+        if !is_step(sides, t, c, to, paid, sum) {
+            return false;
+        }
+        c = to;
+        paid = sum;
+        i += 1;
+    }
+    arrived(c.place, paid, t.units, sides.price)
+}
