@@ -1,0 +1,132 @@
+-- Unit prices planned along the chosen order. Assumes nothing.
+use mathlib.Core.Path.{_≡_, refl, ap, _∙_}
+use mathlib.Core.Bool.{true, false}
+use mathlib.Core.List.{List, [], _++_, map, append-assoc, append-nil}
+use mathlib.Core.Option.{Option, none, some}
+use Prim.Native.Nat.{ℕ, _-_, suc, _≤_}
+use native.Mathlib.Omega.{arith}
+use lib.ListN.{length, take, drop, replicate, length-append, length-replicate, length-map}
+use lib.Seq.{take-at}
+use borrow.Author.Tests.{le-leb}
+use Rattle.contract.specs.Valid.{Valid}
+use Rattle.contract.specs.declared.Form.the-variants.{UnitPrices}
+use Rattle.exchange.specs.Deal.{Deal, State, Plan}
+use Rattle.exchange.specs.Forms.{inOrder}
+use Rattle.exchange.specs.Choice.{together, choose}
+use Rattle.exchange.specs.Named.{eachOnce}
+use Rattle.exchange.specs.declared.Sides.{Sides}
+use Rattle.exchange.proofs.Choice.{chosen, none-plans, unsafe-plans}
+use Rattle.exchange.proofs.Choice.Named.{each-once}
+use Rattle.exchange.proofs.FormLaws.{order-rising}
+use Rattle.exchange.proofs.GivenOrder.{plan-exists}
+use Rattle.choice.specs.Promise.{numbered, answerTo, chosenFor}
+use Rattle.choice.specs.declared.Chosen.{Chosen}
+use Rattle.line.specs.Segments.{dealAlong}
+use Rattle.line.specs.Promise as line
+use Rattle.order.specs.Bytes.{namesEach, itemsIn, picked}
+use Rattle.order.proofs.NamedLaws.{names-numbered, items-numbered}
+use Rattle.planning.specs.Deals.{contractWith, NoPlan}
+use Rattle.planning.specs.Order.{orderIn}
+use Rattle.planning.specs.Areas.{Areas, roomFor}
+use Rattle.planning.specs.Promise.{Success}
+use Rattle.planning.proofs.LinePlan.{line-laid}
+use Rattle.planning.proofs.Outcome.{room, success}
+use Rattle.planning.proofs.NamedOrder.{few-items, units-in-range, units-some, named-deal, named-units, named-fits}
+
+-- what the answer of the choice says: the items that are chosen, or that none are
+pub found-items : (o : Option (List ℕ)) (r : Chosen) → r ≡ answerTo o → r .found ≡ true → (items : List ℕ) × (o ≡ some items) × (r .order ≡ numbered items)
+found-items none r e f = let z : false ≡ true = rw e at f in let q : _≡_ {A = ℕ} 0 1 = cc in absurd (omega arith)
+found-items (some items) r e f = (items, refl, ap (λ (x : Chosen). x .order) e)
+
+pub found-none : (o : Option (List ℕ)) (r : Chosen) → r ≡ answerTo o → r .found ≡ false → o ≡ none
+found-none none r e f = refl
+found-none (some items) r e f = let z : true ≡ false = rw e at f in let q : _≡_ {A = ℕ} 0 1 = cc in absurd (omega arith)
+
+module _ (s : Sides) (us cs vs : List ℕ) (v : Valid (contractWith UnitPrices s us cs vs)) where
+  -- there are at most eight items
+  pub chosen-is : chosenFor s us cs vs ≡ choose s us cs vs
+  unfolding chosenFor
+  chosen-is = rw (le-leb _ _ (few-items s us cs vs v)) refl
+
+  -- no order is found
+  pub prices-none : choose s us cs vs ≡ none → NoPlan (contractWith UnitPrices s us cs vs)
+  prices-none e = none-plans s us cs vs (units-some us (units-in-range s us cs vs v)) e
+
+  -- of an order that is found
+  module _ (items : List ℕ) (e : choose s us cs vs ≡ some items) where
+    all : length items ≡ length us
+    all = chosen s us cs vs items e .all
+
+    abbrev named : List ℕ
+    named = numbered items
+
+    eight : length named ≡ 8
+    eight =
+        let h = few-items s us cs vs v in
+        omega (arith, all, length-append (map suc items) (replicate (8 - length items) 0), length-map items suc, length-replicate {A = ℕ} (8 - length items) 0)
+
+    numbers : take (length us) named ≡ map suc items
+    numbers = take-at (map suc items) (replicate (8 - length items) 0) (length us) (length-map items suc ∙ all)
+
+    pub once : eachOnce (length us) (take (length us) named) ≡ true
+    once = rw numbers (each-once items (length us) (chosen s us cs vs items e .once))
+
+    pub long : length us ≤ length named
+    long = let h = few-items s us cs vs v in omega (arith, eight)
+
+    -- the bytes name the items, whatever follows them
+    same-items : (rest : List ℕ) → itemsIn (length us) (named ++ rest) ≡ items
+    same-items rest = rw (append-assoc, ← all) (items-numbered items (replicate (8 - length items) 0 ++ rest))
+
+    names : (rest : List ℕ) → namesEach (length us) (named ++ rest) ≡ true
+    names rest =
+        rw (← all)
+        (names-numbered (length items) (map suc items) (let h = few-items s us cs vs v in omega (arith, all)) (length-map items suc)
+        (rw all (each-once items (length us) (chosen s us cs vs items e .once))) rest)
+
+    abbrev σ : List ℕ
+    σ = together us (itemsIn (length us) named)
+
+    abbrev segments : Deal
+    segments = dealAlong s (take (length us) (picked us named)) (take (length us) (picked cs named)) (take (length us) (picked vs named))
+
+    same-deal : segments ≡ inOrder s cs vs σ
+    same-deal = named-deal s us cs vs v named long once
+
+    -- the areas suit
+    pub prices-suit : (a : Areas) → roomFor (contractWith UnitPrices s us cs vs) a ≡ true
+        → line.suits (take (length us) (picked us named)) (take (length us) (picked cs named)) (take (length us) (picked vs named)) (a .places) (a .sums) ≡ true
+    unfolding line.suits
+    prices-suit a h =
+        let r = room _ _ a h in
+        rw (named-fits s us cs vs v named long once, named-units s us cs vs v named long once, le-leb _ _ (r .places), le-leb _ _ (r .sums)) refl
+
+    -- no plan along the chosen order, no plan in any
+    pub prices-blocked : ((xs : List State) → Plan segments xs → ⊥) → NoPlan (contractWith UnitPrices s us cs vs)
+    prices-blocked no-plan =
+        let τ = together us items in
+        let same : itemsIn (length us) named ≡ items = rw (← append-nil named) (same-items []) in
+        unsafe-plans s us cs vs τ (chosen s us cs vs items e .order)
+        (λ safe.
+        let (xs, p) = plan-exists (inOrder s cs vs τ) (order-rising s cs vs τ) (λ a b. refl) .1 (chosen s us cs vs items e .possible safe) in
+        no-plan xs (rw (same-deal, same) p))
+
+    pub prices-success : (n : ℕ) (a a′ : Areas) → roomFor (contractWith UnitPrices s us cs vs) a ≡ true
+        → line.Success segments n (a .places) (a .sums) (a′ .places) (a′ .sums)
+        → a′ .order ≡ named ++ drop 8 (a .order) → a′ .work ≡ replicate (length (a .work)) 0
+        → Success (contractWith UnitPrices s us cs vs) n a a′
+    unfolding orderIn
+    prices-success n a a′ h l o w =
+        let τ = together us items in
+        let rest = drop 8 (a .order) in
+        let same : itemsIn (length us) named ≡ items = rw (← append-nil named) (same-items []) in
+        let g : line.Success (inOrder s cs vs τ) n (a .places) (a .sums) (a′ .places) (a′ .sums) = rw (same-deal, same) at l in
+        success (contractWith UnitPrices s us cs vs) n named a a′
+        (record {
+          eight = eight;
+          long = room _ _ a h .order;
+          order-is = o;
+          names = names rest;
+          laid = rw (same-items rest) (line-laid (inOrder s cs vs τ) (order-rising s cs vs τ) (λ x y. refl) n _ _ _ _ g UnitPrices (λ b. b));
+          work-is = w;
+        })

@@ -1,0 +1,107 @@
+// Plans along an order: a ladder, or the chosen order of unit prices.
+ghost use mathlib.Core.List.{[]};
+ghost use Rattle.contract.specs.Valid.{Valid};
+ghost use Rattle.contract.specs.declared.Form.the-variants.{Ladder, UnitPrices};
+ghost use Rattle.line.specs.Segments.{dealAlong};
+ghost use Rattle.planning.specs.Deals.{contractWith};
+ghost use Rattle.planning.specs.Areas.{areas};
+ghost use Rattle.plans.specs.Code.{PlansOf, CanPlan, AlongSays};
+use contract::Refusal;
+use planning::Planned;
+
+// Plans along segments whose order bytes are given. The work area is not used.
+fn plan_along(
+    sides: exchange::Sides,
+    units: &[u16],
+    costs: &[u32],
+    values: &[u32],
+    named: [u8; 8],
+    places: &mut [u8],
+    sums: &mut [u8],
+    order: &mut [u8],
+    work: &mut [u8],
+) -> Planned
+    requires { ⌜ CanPlan (now units) (now costs) (now values) (areas (now places) (now sums) (now order) (now work)) ⌝ }
+    ensures { λ r. ⌜ AlongSays (dealAlong sides (now (units .entry)) (now (costs .entry)) (now (values .entry))) named r (areas (now (places .entry)) (now (sums .entry)) (now (order .entry)) (now (work .entry))) (areas (now (places .exit)) (now (sums .exit)) (now (order .exit)) (now (work .exit))) ⌝ }
+{
+    area::clear(work);
+    match line::plan(sides, units, costs, values, places, sums) {
+        exchange::Planned::Steps(n) => {
+            order::store(order, named);
+            Planned::Steps(n)
+        }
+        exchange::Planned::Impossible => Planned::Impossible,
+        exchange::Planned::Unfit => Planned::Impossible,
+    }
+}
+
+// Plans a ladder: segments of one unit each, and no order to name.
+pub(crate) fn plan_ladder(
+    sides: exchange::Sides,
+    costs: &[u32],
+    values: &[u32],
+    places: &mut [u8],
+    sums: &mut [u8],
+    order: &mut [u8],
+    work: &mut [u8],
+) -> Planned
+    requires { ⌜ Valid (contractWith Ladder sides [] (now costs) (now values)) ⌝ }
+    ensures { λ r. ⌜ PlansOf (contractWith Ladder sides [] (now (costs .entry)) (now (values .entry))) r (areas (now (places .entry)) (now (sums .entry)) (now (order .entry)) (now (work .entry))) (areas (now (places .exit)) (now (sums .exit)) (now (order .exit)) (now (work .exit))) ⌝ }
+{
+    let n = costs.len();
+    if !crate::room::has_room(n, 0, places, sums, order, work) {
+        return Planned::Refused(Refusal::Short);
+    }
+    let ones = sizes::ones();
+    plan_along(
+        sides,
+        &ones[0..n],
+        costs,
+        values,
+        [0u8; 8],
+        places,
+        sums,
+        order,
+        work,
+    )
+}
+
+// Plans unit prices along the chosen order of their items.
+pub(crate) fn plan_prices(
+    sides: exchange::Sides,
+    units: &[u16],
+    costs: &[u32],
+    values: &[u32],
+    places: &mut [u8],
+    sums: &mut [u8],
+    order: &mut [u8],
+    work: &mut [u8],
+) -> Planned
+    requires { ⌜ Valid (contractWith UnitPrices sides (now units) (now costs) (now values)) ⌝ }
+    ensures { λ r. ⌜ PlansOf (contractWith UnitPrices sides (now (units .entry)) (now (costs .entry)) (now (values .entry))) r (areas (now (places .entry)) (now (sums .entry)) (now (order .entry)) (now (work .entry))) (areas (now (places .exit)) (now (sums .exit)) (now (order .exit)) (now (work .exit))) ⌝ }
+{
+    if !crate::room::has_room(sizes::sum_units(units), 0, places, sums, order, work) {
+        return Planned::Refused(Refusal::Short);
+    }
+    let chosen = choice::choose(sides.supplier, sides.buyer, units, costs, values);
+    if !chosen.found {
+        area::clear(work);
+        return Planned::Impossible;
+    }
+    let n = units.len();
+    let named = chosen.order;
+    let us = order::pick_units(units, named);
+    let cs = order::pick_amounts(costs, named);
+    let vs = order::pick_amounts(values, named);
+    plan_along(
+        sides,
+        &us[0..n],
+        &cs[0..n],
+        &vs[0..n],
+        named,
+        places,
+        sums,
+        order,
+        work,
+    )
+}
