@@ -1,0 +1,66 @@
+-- Where a plan in two areas stands after some steps. Assumes nothing.
+use mathlib.Core.Path.{_≡_, refl, sym, ap, _∙_}
+use mathlib.Core.Bool.{Bool, true, false, not, and-eq-true-iff}
+use mathlib.Core.List.{List, [], _∷_}
+use Prim.Native.Nat.{ℕ, zero, suc, _≤_, _<_}
+use native.Mathlib.Omega.{arith}
+use borrow.Author.Tests.{leb-true, le-leb, lt-leb, not-false}
+use lib.Dec.{leb}
+use lib.ListN.{length, getD, take}
+use Rattle.area.specs.Entries.{entries}
+use Rattle.exchange.specs.Deal.{State, start, after}
+use Rattle.exchange.specs.PlanIn.{states, planIn}
+use Rattle.exchange.proofs.PlanInLaws.{plan-length}
+use Rattle.planning.specs.Check.{holdsCount}
+use Rattle.session.specs.Session.{entryOf}
+use Rattle.session.specs.Code.{entryAfter, Held}
+use Rattle.session.specs.declared.Side.{Side}
+use Rattle.session.specs.declared.Side.the-variants.{Delivery, Payment}
+
+pub after-none : (s : State) (xs : List State) → after s xs 0 ≡ s
+after-none s [] = refl
+after-none s (t ∷ ts) = refl
+
+states-after : (s : State) (ps qs : List ℕ) (n k : ℕ) → n ≤ length ps → n ≤ length qs → k < n
+    → after s (states (take n ps) (take n qs)) (suc k) ≡ record { place = getD ps k 0; paid = getD qs k 0 }
+unfolding states
+states-after s ps qs zero k h l m = absurd (omega arith)
+states-after s [] qs (suc n) k h l m = absurd (omega arith)
+states-after s (p ∷ ps) [] (suc n) k h l m = absurd (omega arith)
+states-after s (p ∷ ps) (q ∷ qs) (suc n) zero h l m = after-none _ (states (take n ps) (take n qs))
+states-after s (p ∷ ps) (q ∷ qs) (suc n) (suc k) h l m = states-after _ ps qs n k (omega arith) (omega arith) (omega arith)
+
+module _ (count : ℕ) (places sums : List ℕ) where
+  pub held-count : Held count places sums → holdsCount count places sums ≡ true
+  unfolding holdsCount
+  held-count h = rw (le-leb _ _ (h .places-hold)) (le-leb _ _ (h .sums-hold))
+
+  pub count-held : {r : Bool} → r ≡ holdsCount count places sums → not r ≡ false → Held count places sums
+  unfolding holdsCount
+  count-held {r} e h =
+      let f = and-eq-true-iff _ _ .0 (sym e ∙ not-false r h) in
+      record { places-hold = leb-true _ _ (f .0); sums-hold = leb-true _ _ (f .1) }
+
+  -- the test of the two areas
+  module _ {m : ℕ} (e : m ≡ length (entries 2 places)) where
+    pub short-places : m < count → false ≡ holdsCount count places sums
+    unfolding holdsCount
+    short-places h = let l : length (entries 2 places) < count = omega arith in rw (lt-leb _ _ l)
+
+    pub long-places : count ≤ m → {l : ℕ} → l ≡ length (entries 4 sums) → leb count l ≡ holdsCount count places sums
+    unfolding holdsCount
+    long-places h f = let l : count ≤ length (entries 2 places) = omega arith in rw (le-leb _ _ l, ← f)
+
+  module _ (h : Held count places sums) where
+    pub held-length : length (planIn count places sums) ≡ count
+    held-length = plan-length places sums count (h .places-hold) (h .sums-hold)
+
+    -- the code's entry is the plan's
+    pub entry-after : (k : ℕ) (side : Side) → k ≤ count → entryAfter places sums k side ≡ entryOf side (after start (planIn count places sums) k)
+    unfolding planIn
+    entry-after zero Delivery l = rw (after-none start (planIn count places sums))
+    entry-after zero Payment l = rw (after-none start (planIn count places sums))
+    entry-after (suc k) Delivery l =
+        sym (ap (λ (t : State). t .place) (states-after start (entries 2 places) (entries 4 sums) count k (h .places-hold) (h .sums-hold) l))
+    entry-after (suc k) Payment l =
+        sym (ap (λ (t : State). t .paid) (states-after start (entries 2 places) (entries 4 sums) count k (h .places-hold) (h .sums-hold) l))
