@@ -1,0 +1,39 @@
+-- `yolkgorge::numbers::short_number` meets its contract, by the contract of its callee. Assumes nothing.
+use mathlib.Core.Path.{_∙_}
+use Rattle.yolkgorge.proofs.NumberLaws.{short-stands}
+use borrow.Author.Needs.{needs}
+use Rattle.yolkgorge.proofs.numbers.short_number.Statement.{statement}
+use Rattle.yolkgorge.proofs.numbers.short_number.Tie as tie
+
+enum-known-answer : tie.Need-enum-known-answer
+enum-known-answer c = search needs
+
+refusal-number-requires : tie.Need-refusal-number-requires
+refusal-number-requires c κs = search needs
+
+enum-told : tie.Need-enum-told
+enum-told c = search needs
+
+enum-told-2 : tie.Need-enum-told-2
+enum-told-2 c = search needs
+
+returns : tie.Need-returns
+returns c = c .refusal-number .ensures .0 ∙ rw (c .before .before .answer .given .1) (short-stands (Unit {0}) (c .before .before .answer .given .0 .0))
+
+returns-2 : tie.Need-returns-2
+returns-2 c = search needs
+
+returns-3 : tie.Need-returns-3
+returns-3 c = search needs
+
+pub short-number-spec : {M : Type 1} → statement M
+short-number-spec =
+    tie.close
+    (tie.spec
+    enum-known-answer
+    refusal-number-requires
+    enum-told
+    enum-told-2
+    returns
+    returns-2
+    returns-3)

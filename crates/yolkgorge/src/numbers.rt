@@ -1,0 +1,113 @@
+// Answers as plain numbers.
+ghost use mathlib.Core.Path.{_≡_};
+ghost use Prim.Native.Nat.{_<_, _^_};
+ghost use lib.IntN.{pos, negℤ};
+ghost use Rattle.contract.specs.Contract.{numberOf};
+ghost use Rattle.planning.specs.Answer.{answerOf, boundedOf, checkedOf};
+ghost use Rattle.session.specs.Session.{replied};
+ghost use Rattle.yolkgorge.specs.Number.{numberFor, codeOf, unfitCode, orShort, CountFits};
+use contract::Refusal;
+use planning::Bounded;
+use planning::Checked;
+use planning::Planned;
+use session::Reply;
+
+// The paper's number of a refusal.
+pub(crate) fn refusal_number(e: Refusal) -> u32
+    ensures { λ r. ⌜ (r ≡ numberOf e) × (r < 9) ⌝ }
+{
+    match e {
+        Refusal::Truncated => 1,
+        Refusal::Map => 2,
+        Refusal::Value => 3,
+        Refusal::Limit => 4,
+        Refusal::Range => 5,
+        Refusal::Falling => 6,
+        Refusal::Trailing => 7,
+        Refusal::Short => 8,
+    }
+}
+
+// Minus a number.
+fn minus(number: u32) -> i64
+    ensures { λ r. ⌜ r ≡ negℤ (pos number) ⌝ }
+{
+    0 - number as i64
+}
+
+// A step count.
+fn steps(count: usize) -> i64
+    requires { ⌜ count < 2 ^ 63 ⌝ }
+    ensures { λ r. ⌜ r ≡ pos count ⌝ }
+{
+    count as i64
+}
+
+// The step count of a plan, or minus the number of the refusal.
+pub(crate) fn steps_or_refusal(answer: Planned) -> i64
+    requires { ⌜ CountFits (answerOf answer) ⌝ }
+    ensures { λ r. ⌜ r ≡ numberFor (answerOf answer) ⌝ }
+{
+    match answer {
+        Planned::Refused(e) => minus(refusal_number(e)),
+        Planned::Impossible => minus(9),
+        Planned::Steps(n) => steps(n),
+    }
+}
+
+// 0 for a plan that is accepted, else the number of the refusal.
+pub(crate) fn check_number(answer: Checked) -> u32
+    ensures { λ r. ⌜ r ≡ codeOf (checkedOf answer) ⌝ }
+{
+    match answer {
+        Checked::Refused(e) => refusal_number(e),
+        Checked::Unsafe => 12,
+        Checked::Accepted => 0,
+    }
+}
+
+// The number of a check's answer where an area of the caller's is too short.
+pub(crate) fn short_number(answer: Checked) -> u32
+    ensures { λ r. ⌜ r ≡ codeOf (orShort (checkedOf answer)) ⌝ }
+{
+    match answer {
+        Checked::Refused(e) => refusal_number(e),
+        Checked::Unsafe => 8,
+        Checked::Accepted => 8,
+    }
+}
+
+// 0 for a report that is taken, else the number of the refusal.
+pub(crate) fn reply_number(reply: Reply) -> u32
+    ensures { λ r. ⌜ r ≡ codeOf (replied reply) ⌝ }
+{
+    match reply {
+        Reply::Taken => 0,
+        Reply::Short => 8,
+        Reply::Finished => 11,
+        Reply::Unfit => 10,
+    }
+}
+
+// The number of a reply to a report that can't fit.
+pub(crate) fn unfit_number(reply: Reply) -> u32
+    ensures { λ r. ⌜ r ≡ unfitCode (replied reply) ⌝ }
+{
+    match reply {
+        Reply::Taken => 10,
+        Reply::Short => 8,
+        Reply::Finished => 11,
+        Reply::Unfit => 10,
+    }
+}
+
+// The number of an answer with bounds where an area of the caller's is too short.
+pub(crate) fn short_bounds(answer: Bounded) -> u32
+    ensures { λ r. ⌜ r ≡ codeOf (orShort (boundedOf answer)) ⌝ }
+{
+    match answer {
+        Bounded::Refused(e) => refusal_number(e),
+        Bounded::WrongOrder => 8,
+        Bounded::Between(_) => 8,
+    }
+}

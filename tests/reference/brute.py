@@ -1,0 +1,157 @@
+"""Every safe plan of a small deal, step by step from the paper's definitions, to try the planner of planning.py.
+
+A World is a set of places with the units that each holds. A ladder has one world. Unit prices have one for each order
+of the units, those of one item together or not. A table has one, whose places are all rows. States are tested by
+whether a side gains by leaving, not by the bounds that the planner uses. No plan is thought better than another one:
+whatever is said of all plans comes from going through all states that they have after k steps.
+
+Plans without repeated states are enough: a step that moves nothing only delays what follows.
+"""
+from dataclasses import dataclass
+from itertools import permutations, product
+
+from record import LADDER, TABLE
+
+START = (0, 0)
+
+
+@dataclass(frozen=True)
+class World:
+    header: object
+    costs: list   # of each place
+    values: list
+    held: list    # units of each item in each place
+
+    @property
+    def end(self):
+        return len(self.costs) - 1, self.header.price
+
+
+# Worlds of a contract
+
+def worlds(contract):
+    """All worlds in which a rival may plan."""
+    if contract.header.form in (LADDER, TABLE):
+        return [own_world(contract)]
+    return [world_along(contract, order) for order in unit_orders(contract)]
+
+
+def own_world(contract, items=()):
+    """The world of our plan; for unit prices all units of the first item in items, then of the second, and so on."""
+    header = contract.header
+    if header.form == TABLE:
+        held = list(product(*(range(n + 1) for n in header.units[:header.count])))
+        return World(header, contract.costs, contract.values, held)
+    if header.form == LADDER:
+        places = range(header.count + 1)
+        return World(header, [sum(contract.costs[:k]) for k in places], [sum(contract.values[:k]) for k in places],
+                     [(k,) for k in places])
+    return world_along(contract, [item for item in items for _ in range(header.units[item - 1])])
+
+
+def unit_orders(contract):
+    """Every order of the units, each unit named by its item."""
+    header = contract.header
+    named = [item for item in range(1, header.count + 1) for _ in range(header.units[item - 1])]
+    return sorted(set(permutations(named)))
+
+
+def world_along(contract, order):
+    held = [tuple(order[:k].count(item) for item in range(1, contract.header.count + 1)) for k in range(len(order) + 1)]
+    costs, values = ([sum(n * amount for n, amount in zip(units, amounts)) for units in held]
+                     for amounts in (contract.costs, contract.values))
+    return World(contract.header, costs, values, held)
+
+
+# Steps
+
+def safe(world, place, paid):
+    """Whether neither side gains by leaving."""
+    header = world.header
+    supplier_leaves = paid - world.costs[place] - header.supplier > header.price - world.costs[-1]
+    buyer_leaves = world.values[place] - paid - header.buyer > world.values[-1] - header.price
+    return 0 <= paid <= header.price and not supplier_leaves and not buyer_leaves
+
+
+def safe_sums(world):
+    """For each place the safe paid sums."""
+    return [{paid for paid in range(world.header.price + 1) if safe(world, place, paid)}
+            for place in range(len(world.costs))]
+
+
+def all_steps(world):
+    """For each safe state the states to which a step leads that moves something."""
+    sums = safe_sums(world)
+    places = range(len(world.costs))
+    above = [[b for b in places if all(m >= n for m, n in zip(world.held[b], world.held[a]))] for a in places]
+    return {(a, p): [(b, q) for b in above[a] if p in sums[b]
+                     for q in sums[a] if q >= p and q in sums[b] and (b, q) != (a, p)]
+            for a in places for p in sums[a]}
+
+
+# What holds of all plans
+
+def all_plans(world, steps):
+    """Every safe plan without repeated states, one after the other."""
+    def onwards(state, path):
+        if state == world.end:
+            yield path
+        for after in steps[state]:
+            yield from onwards(after, path + [after])
+
+    if START in steps:
+        yield from onwards(START, [])
+
+
+def layers(world, steps):
+    """For each k the states after k steps of all plans that reach the end; empty if there is no plan."""
+    going_on = ending(world, steps)
+    layer, found = {START} & going_on, []
+    while layer:
+        found.append(layer)
+        layer = {after for state in layer for after in steps[state]} & going_on
+    return found
+
+
+def ending(world, steps):
+    """The states from which the end is reached. A step only adds, so later states are settled first."""
+    found = set()
+    for state in sorted(steps, reverse=True):  # a place that holds more has a higher number
+        if state == world.end or any(after in found for after in steps[state]):
+            found.add(state)
+    return found
+
+
+def least_count(world, found_layers):
+    """The fewest steps of all plans, or None if there is none."""
+    return next((k for k, layer in enumerate(found_layers) if world.end in layer), None)
+
+
+def greatest(found_layers):
+    """For each k the greatest place and the greatest sum that any plan has after k steps."""
+    return [(max(place for place, _ in layer), max(paid for _, paid in layer)) for layer in found_layers]
+
+
+def earliest_rows(world, steps, count):
+    """Of all plans with so many steps the earliest list of rows, whatever they pay."""
+    ends_in = [{world.end}]  # by number of steps left
+    for _ in range(count):
+        ends_in.append({state for state in steps if any(after in ends_in[-1] for after in steps[state])})
+    rows, here = [], {START} & ends_in[count]
+    for left in reversed(range(count)):
+        after = {after for state in here for after in steps[state]} & ends_in[left]
+        rows.append(min(row for row, _ in after))
+        here = {state for state in after if state[0] == rows[-1]}
+    return rows
+
+
+def is_plan(world, steps, states):
+    """Whether these states make a safe plan; a step that moves nothing only needs a safe state."""
+    path = [START, *states]
+    return path[-1] == world.end and all(
+        before in steps and (after == before or after in steps[before]) for before, after in zip(path, path[1:]))
+
+
+def some_plan_exists(contract):
+    """Whether a rival plan exists in any order."""
+    return any(layers(world, all_steps(world)) for world in worlds(contract))

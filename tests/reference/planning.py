@@ -1,0 +1,386 @@
+"""Planner, checker of plans and session, written from the paper alone.
+
+It shares no code with the verified crates, so that comparing the two is evidence for both.
+
+bounds(record, place, order)                           ('refused', n) or (lower, upper)
+plan(record, places_len, sums_len, order_len, work_len) ('refused', n) or ('steps', [(place, paid), ..], order bytes)
+areas_after(record, reply, places, sums, order, work)  the four areas as planning with this reply leaves them
+check(record, count, places, sums, order)              0 or the number of a refusal
+open(record, count, places, sums, order)               (number, session); the session is None on a refusal
+report(session, count, places, sums, side, number)     (number, session); number 0 means that the report was taken
+finished(session, count)                               whether the session is finished
+
+Records and areas are bytes, lengths are in bytes. A session is (steps passed, delivered mark, paid mark).
+"""
+from bisect import bisect_right
+from dataclasses import dataclass
+from itertools import accumulate
+from typing import NamedTuple
+
+import record as records
+from record import LADDER, RANGE, SHORT, TABLE, UNIT_PRICES, Contract
+
+IMPOSSIBLE, UNFIT, FINISHED, UNSAFE = 9, 10, 11, 12
+
+PLACE_SIZE, SUM_SIZE, ORDER_SIZE = 2, 4, 8  # bytes of an entry, and of the order that counts
+DELIVERY, PAYMENT = 0, 1                    # the sides of a report
+START = (0, 0)                              # nothing delivered, nothing paid
+
+
+# Deals: the places of a contract along one order of its items, with the bounds of each place
+
+@dataclass(frozen=True)
+class Deal:
+    price: int
+    lower: list
+    upper: list
+    held: list  # for each place the units of every item; along one order the number of units says it all
+
+    @property
+    def last(self):
+        return len(self.lower) - 1
+
+    def holds(self, place, other):
+        """Whether the place holds at least the other's units of every item."""
+        return all(m >= n for m, n in zip(self.held[place], self.held[other]))
+
+    def safe(self, place, paid):
+        return 0 <= paid <= self.price and self.lower[place] <= paid <= self.upper[place]
+
+    def is_step(self, before, after):
+        """The paper's step: nothing is taken back, and all four states are safe."""
+        (a, p), (b, q) = before, after
+        if b > self.last or q < p or not self.holds(b, a):
+            return False
+        return all(self.safe(place, paid) for place in (a, b) for paid in (p, q))
+
+    def is_plan(self, states):
+        """Whether the states after each step, from the start on, are steps that end at (L, P)."""
+        path = [START, *states]
+        return path[-1] == (self.last, self.price) and all(map(self.is_step, path, path[1:]))
+
+
+def deal_of(contract, order=()):
+    """The deal of a contract; order lists the items from 1, for unit prices only."""
+    header = contract.header
+    costs, values = place_totals(contract, order)
+    lower = [header.price - values[-1] + value - header.buyer for value in values]
+    upper = [header.price - costs[-1] + cost + header.supplier for cost in costs]
+    return Deal(header.price, lower, upper, held_units(contract))
+
+
+def place_totals(contract, order):
+    """The supplier's cost and the buyer's value of every place."""
+    if contract.header.form == TABLE:
+        return contract.costs, contract.values
+    if contract.header.form == LADDER:
+        rises = contract.costs, contract.values
+    else:
+        rises = (along_order(contract, order, amounts) for amounts in (contract.costs, contract.values))
+    return tuple(list(accumulate(column, initial=0)) for column in rises)
+
+
+def along_order(contract, order, amounts):
+    """The amount of each unit, all units of the first item in the order first."""
+    return [amounts[item - 1] for item in order for _ in range(contract.header.units[item - 1])]
+
+
+def held_units(contract):
+    if contract.header.form != TABLE:
+        return [(place,) for place in range(last_place(contract) + 1)]
+    held = [()]
+    for n in item_units(contract):  # the last item runs fastest
+        held = [row + (units,) for row in held for units in range(n + 1)]
+    return held
+
+
+def item_units(contract):
+    return contract.header.units[:contract.header.count]
+
+
+def all_units(contract):
+    """U of the paper."""
+    return contract.header.count if contract.header.form == LADDER else sum(item_units(contract))
+
+
+def last_place(contract):
+    """L of the paper."""
+    if contract.header.form == TABLE:
+        return records.row_count(item_units(contract)) - 1
+    return all_units(contract)
+
+
+# Order bytes
+
+def order_bytes(items):
+    return bytes(items).ljust(ORDER_SIZE, b"\0")
+
+
+def items_in(contract, order):
+    """The items that the order bytes list, or None if they are wrong; only the first eight bytes count."""
+    count = contract.header.count if contract.header.form == UNIT_PRICES else 0
+    items = tuple(order[:count])
+    right = sorted(items) == list(range(1, count + 1)) and order[:ORDER_SIZE] == order_bytes(items)
+    return items if right else None
+
+
+# Bounds
+
+def bounds(record, place, order):
+    contract = records.parse(record)
+    if not isinstance(contract, Contract):
+        return "refused", contract
+    if len(order) < ORDER_SIZE:
+        return "refused", SHORT
+    if place > last_place(contract):
+        return "refused", RANGE
+    items = items_in(contract, order)
+    if items is None:
+        return "refused", UNSAFE
+    deal = deal_of(contract, items)
+    return deal.lower[place], deal.upper[place]
+
+
+# Planning
+
+def plan(record, places_len, sums_len, order_len, work_len):
+    contract = records.parse(record)
+    if not isinstance(contract, Contract):
+        return "refused", contract
+    if areas_too_short(contract, places_len, sums_len, order_len, work_len):
+        return "refused", SHORT
+    found = plan_of(contract)
+    if found is None:
+        return "refused", IMPOSSIBLE
+    steps, items = found
+    return "steps", steps, order_bytes(items)
+
+
+def areas_too_short(contract, places_len, sums_len, order_len, work_len):
+    entries = 2 * all_units(contract) + 1
+    work = (last_place(contract) + 1) * (entries + 1) if contract.header.form == TABLE else 0
+    return (places_len // PLACE_SIZE < entries or sums_len // SUM_SIZE < entries or order_len < ORDER_SIZE
+            or work_len < work)
+
+
+def plan_of(contract):
+    """The steps and the order of the items, or None if no plan exists in any order."""
+    items = chosen_order(contract) if contract.header.form == UNIT_PRICES else ()
+    if items is None:
+        return None
+    deal = deal_of(contract, items)
+    steps = fewest_steps(deal) if contract.header.form == TABLE else steps_along(deal)
+    if steps is None:
+        assert contract.header.form != UNIT_PRICES or not deal.safe(*START)  # the order itself admits a plan
+        return None
+    assert deal.is_plan(steps) and len(steps) <= 2 * all_units(contract) + 1
+    return steps, items
+
+
+def steps_along(deal):
+    """The rule for a given order, or None where it comes to a stand before the end.
+
+    The paper: "each step delivers to the greatest place whose lower bound is at most p, and pays to the smaller of
+    upper(a) and P".
+    """
+    if not deal.safe(*START):
+        return None
+    steps, state = [], START
+    while state != (deal.last, deal.price):
+        place, paid = state
+        # lower bounds never fall along an order, so the places within reach are the first ones
+        state = bisect_right(deal.lower, paid) - 1, min(deal.upper[place], deal.price)
+        if state == (place, paid):
+            return None
+        steps.append(state)
+    return steps
+
+
+# The order for unit prices. The gap is upper less lower; the next unit is safe exactly if its value is at most the gap.
+
+def chosen_order(contract):
+    """The items in the order that the paper picks, or None if no order is safe from unit to unit."""
+    order = picked_order(contract)
+    assert (order is not None) == some_order_is_safe(contract)
+    return order
+
+
+class Pick(NamedTuple):
+    item: int
+    units: int
+    gain: int  # by which a unit widens the gap, towards the end or backwards from it
+    need: int  # the gap that its first unit asks for
+
+
+def picked_order(contract):
+    """Both parts of the order, or None if one of them cannot be completed.
+
+    The paper: "items whose unit cost is at least the unit value come first", picked by their values; "the others fill
+    the places from the last backwards", picked by their costs.
+    """
+    header = contract.header
+    items = list(zip(range(1, header.count + 1), item_units(contract), contract.costs, contract.values))
+    gap_at_end = header.supplier + header.buyer
+    gap_at_start = gap_at_end - sum(units * (cost - value) for _, units, cost, value in items)
+    forwards = [Pick(item, units, cost - value, value) for item, units, cost, value in items if cost >= value]
+    backwards = [Pick(item, units, value - cost, cost) for item, units, cost, value in items if cost < value]
+    first, last = picked(forwards, gap_at_start), picked(backwards, gap_at_end)
+    return None if first is None or last is None else (*first, *reversed(last))
+
+
+def picked(picks, gap):
+    """Again and again the greatest gain of a unit among those that the gap admits, on a tie the lower item number."""
+    order = []
+    while picks:
+        admitted = [pick for pick in picks if pick.need <= gap]
+        if not admitted:
+            return None
+        best = max(admitted, key=lambda pick: (pick.gain, -pick.item))
+        order.append(best.item)
+        picks.remove(best)
+        gap += best.units * best.gain
+    return order
+
+
+def some_order_is_safe(contract):
+    """Whether any order of whole items is safe from unit to unit, by trying every set of items delivered so far."""
+    header = contract.header
+    lines = list(zip(item_units(contract), contract.costs, contract.values))
+    gap_at_end = header.supplier + header.buyer
+    gaps = {0: gap_at_end - sum(units * (cost - value) for units, cost, value in lines)}  # by set of items
+    for done in range(2 ** len(lines)):
+        for i, (units, cost, value) in enumerate(lines):
+            if done in gaps and not done >> i & 1:
+                first, last = gaps[done], gaps[done] + (units - 1) * (cost - value)
+                if value <= min(first, last):  # before each unit the gap lies between these two
+                    gaps[done | 1 << i] = last + cost - value
+    return 2 ** len(lines) - 1 in gaps
+
+
+# The table: search through the states themselves, breadth first
+
+def fewest_steps(deal):
+    """Of the plans with fewest steps the one "whose list of rows is earliest, compared from the first step", or None.
+
+    A state's successors are tried by rising row, and the states of one length stand in the order of their rows. So the
+    first path to any state is a shortest one and of these the earliest. A path's rows settle all of its payments.
+    """
+    above = [[row for row in range(deal.last + 1) if deal.holds(row, below)] for below in range(deal.last + 1)]
+    end = (deal.last, deal.price)
+    came_from = {START: None}
+    queue = [START] if deal.safe(*START) else []
+    for state in queue:  # grows on the way
+        if state == end:
+            return path_to(end, came_from)
+        row, paid = state
+        pays = min(deal.upper[row], deal.price)
+        for higher in above[row]:
+            if deal.lower[higher] <= paid and (higher, pays) not in came_from:
+                came_from[higher, pays] = state
+                queue.append((higher, pays))
+    return None
+
+
+def path_to(state, came_from):
+    path = []
+    while state != START:
+        path.append(state)
+        state = came_from[state]
+    return path[::-1]
+
+
+# Areas
+
+def areas_after(record, reply, places, sums, order, work):
+    """The areas after planning a record with this reply; the record itself is only read."""
+    if reply == ("refused", IMPOSSIBLE):
+        return places, sums, order, bytes(len(work))
+    if reply[0] == "refused":
+        return places, sums, order, work
+    _, steps, order8 = reply
+    places = with_entries(places, PLACE_SIZE, [place for place, _ in steps])
+    sums = with_entries(sums, SUM_SIZE, [paid for _, paid in steps])
+    return places, sums, order8 + order[ORDER_SIZE:], bytes(len(work))
+
+
+def with_entries(area, size, numbers):
+    """The numbers, then zeros up to the last whole entry; a remainder too short for an entry stays."""
+    written = b"".join(number.to_bytes(size, "little") for number in numbers)
+    whole = entry_count(area, size) * size
+    return written.ljust(whole, b"\0") + area[whole:]
+
+
+def entry_count(area, size):
+    return len(area) // size
+
+
+def entry(area, size, i):
+    return int.from_bytes(area[i * size:(i + 1) * size], "little")
+
+
+# Checking a plan
+
+def check(record, count, places, sums, order):
+    contract = records.parse(record)
+    if not isinstance(contract, Contract):
+        return contract
+    if above_areas(count, places, sums) or len(order) < ORDER_SIZE:
+        return SHORT
+    items = items_in(contract, order)
+    if items is None:
+        return UNSAFE
+    states = [state_after(k, places, sums) for k in range(1, count + 1)]
+    return 0 if deal_of(contract, items).is_plan(states) else UNSAFE
+
+
+def above_areas(count, places, sums):
+    return count > min(entry_count(places, PLACE_SIZE), entry_count(sums, SUM_SIZE))
+
+
+def state_after(k, places, sums):
+    """Where a plan stands after k steps."""
+    return (entry(places, PLACE_SIZE, k - 1), entry(sums, SUM_SIZE, k - 1)) if k else START
+
+
+# Sessions
+
+def open(record, count, places, sums, order):
+    number = check(record, count, places, sums, order)
+    if number:
+        return number, None
+    return 0, passed_over((0, False, False), count, places, sums)
+
+
+def report(session, count, places, sums, side, number):
+    """The report is tested against the session as it is, and only a report that fits moves it.
+
+    The paper: it fits "if it equals the plan's entry, that entry differs from the step before, and that side isn't
+    marked". So any other side fits no step.
+    """
+    if above_areas(count, places, sums):
+        return SHORT, session
+    if finished(session, count):
+        return FINISHED, session
+    passed, *marks = session
+    if side not in open_moves(session, places, sums) or state_after(passed + 1, places, sums)[side] != number:
+        return UNFIT, session
+    marks[side] = True
+    return 0, passed_over((passed, *marks), count, places, sums)
+
+
+def finished(session, count):
+    return session[0] >= count
+
+
+def open_moves(session, places, sums):
+    """The sides of the open step that move and aren't marked."""
+    passed, *marks = session
+    before, after = (state_after(k, places, sums) for k in (passed, passed + 1))
+    return [side for side in (DELIVERY, PAYMENT) if before[side] != after[side] and not marks[side]]
+
+
+def passed_over(session, count, places, sums):
+    """The session after every step "whose moves are all reported, or that has none", several in a row too."""
+    while not finished(session, count) and not open_moves(session, places, sums):
+        session = (session[0] + 1, False, False)
+    return session

@@ -1,0 +1,641 @@
+"""Cases for comparing two planners, checkers and sessions, the same on every run.
+
+plan_cases(seed), bounds_cases(seed), check_cases(seed), session_cases(seed)   lists of the classes below
+few_cases(seed)                                                                a small batch of each, as four lists
+
+Most deals are tight: the leaving costs are about the least with which a plan exists, and the price is at or next to an
+end of the range in which the start is safe. So many are impossible and many just possible.
+"""
+import random
+from dataclasses import dataclass, replace
+from math import inf
+
+import examples
+import planning
+import record
+import record_cases
+from record import LADDER, MOST_MONEY, TABLE, UNIT_PRICES, Contract, Header
+from record_cases import FORMS, MAX_U16, MAX_U32
+
+LARGE_TABLES = ((3, 3, 3, 1), (7, 15), (1, 1, 1, 15), (127,), (10, 10), (1, 7, 7), (4, 4, 4), (63, 1), (5, 20))
+
+NAMES = {LADDER: "ladder", UNIT_PRICES: "unit prices", TABLE: "table"}
+
+
+@dataclass(frozen=True)
+class PlanCase:
+    """The areas as they are lent, with bytes in them that planning may have to leave or to clear."""
+    kind: str
+    record: bytes
+    places: bytes
+    sums: bytes
+    order: bytes
+    work: bytes
+
+
+@dataclass(frozen=True)
+class BoundsCase:
+    kind: str
+    record: bytes
+    place: int
+    order: bytes
+
+
+@dataclass(frozen=True)
+class CheckCase:
+    kind: str
+    record: bytes
+    count: int
+    places: bytes
+    sums: bytes
+    order: bytes
+
+
+@dataclass(frozen=True)
+class SessionCase:
+    """Reports one after the other, from the session given, or from the one that opening the plan hands back."""
+    kind: str
+    record: bytes
+    count: int
+    places: bytes
+    sums: bytes
+    order: bytes
+    session: tuple | None
+    reports: tuple  # of (side, number)
+
+
+# Goods: contracts without price and leaving costs
+
+def some_goods(rng, form, most_units, most_amount):
+    return (some_ladder, some_items, some_table)[form](rng, most_units, most_amount)
+
+
+def some_ladder(rng, most_units, most_amount):
+    units = rng.randint(1, most_units)
+    columns = ([rng.randint(0, most_amount) for _ in range(units)] for _ in range(2))
+    return Contract(Header(form=LADDER, count=units), *columns)
+
+
+def some_items(rng, most_units, most_amount):
+    """Amounts of a unit that differ between items; equal ones are common, so that ties are tried."""
+    count = rng.randint(1, min(most_units, record.MOST_ITEMS[UNIT_PRICES]))
+    most = min(record.MOST_ITEM_UNITS, most_units // count)
+    units = [rng.choice((1, rng.randint(1, most))) for _ in range(count)]
+    columns = ([rng.randint(0, most_amount) for _ in units] for _ in range(2))
+    return Contract(Header(form=UNIT_PRICES, count=count, units=record.padded(units)), *columns)
+
+
+def some_table(rng, most_rows, most_amount):
+    units = table_units(rng, most_rows)
+    columns = (some_cells(rng, units, most_amount) for _ in range(2))
+    return Contract(Header(form=TABLE, count=len(units), units=record.padded(units)), *columns)
+
+
+def table_units(rng, most_rows):
+    while True:
+        units = [rng.choice((1, 1, 2, 3, rng.randint(1, most_rows))) for _ in range(rng.randint(1, 4))]
+        if record.row_count(units) <= most_rows:
+            return units
+
+
+def some_cells(rng, units, most_amount):
+    """Cells that never fall. Of some tables many cells are what the filling rule restores; row 0 need not be zero."""
+    flat = rng.choice((0, 0, 0.3, 0.7))
+    cells = []
+    for row in range(record.row_count(units)):
+        rise = 0 if rng.random() < flat or row == 0 and rng.random() < 0.7 else rng.randint(0, most_amount)
+        cells.append(record.filling(cells, row, units) + rise)
+    return cells
+
+
+# Price and leaving costs
+
+def with_deal(contract, price, supplier, buyer):
+    amounts = (min(max(amount, 0), MOST_MONEY) for amount in (price, supplier, buyer))
+    price, supplier, buyer = amounts
+    return replace(contract, header=replace(contract.header, price=price, supplier=supplier, buyer=buyer))
+
+
+def tight(rng, contract):
+    total = max(0, least_leaving_costs(contract) + rng.choice((-1, -1, 0, 0, 0, 0, 1, 2)))
+    return priced(rng, contract, total)
+
+
+def loose(rng, contract):
+    least = least_leaving_costs(contract)
+    return priced(rng, contract, least + rng.randint(0, 2 * least + 3))
+
+
+def priced(rng, contract, leaving_costs):
+    """Splits the leaving costs between the two sides and takes a price at or near an end of the safe range."""
+    supplier = rng.choice((0, leaving_costs, rng.randint(0, leaving_costs)))
+    buyer = leaving_costs - supplier
+    cost, value = whole_rises(contract)
+    least, most = cost - supplier, value + buyer
+    within = rng.randint(min(least, most), max(least, most))
+    price = rng.choice((least, most, within, within, within, within, least - 1, most + 1))
+    return with_deal(contract, price, supplier, buyer)
+
+
+def whole_rises(contract):
+    """How much cost and value rise from the first place to the last."""
+    items = tuple(range(1, contract.header.count + 1))
+    costs, values = planning.place_totals(contract, items)
+    return costs[-1] - costs[0], values[-1] - values[0]
+
+
+def least_leaving_costs(contract):
+    """The least sum of both leaving costs with which every delivery of a plan can be safe."""
+    if contract.header.form == UNIT_PRICES:
+        return least_for_items(contract)
+    header = contract.header
+    units = (header.count,) if header.form == LADDER else header.units[:header.count]
+    costs, values = planning.place_totals(contract, ())
+    # unit by unit a delivery from a to b needs values[b] - costs[a]; of all ways the one whose greatest need is least
+    need = [-inf]
+    for b in range(1, len(costs)):
+        need.append(min(max(need[a], values[b] - costs[a]) for a in record.rows_below(b, units)))
+    return max(0, need[-1] + costs[-1] - values[-1])
+
+
+def least_for_items(contract):
+    enough, too_little = MOST_MONEY, -1
+    while enough - too_little > 1:
+        middle = (enough + too_little) // 2
+        if planning.some_order_is_safe(with_deal(contract, 0, 0, middle)):
+            enough = middle
+        else:
+            too_little = middle
+    return enough
+
+
+def some_amount(rng):
+    return rng.choice((1, 2, 3, 5, 8, 8, 30, 1_000, 100_000))
+
+
+def small_deal(rng, form=None):
+    form = rng.choice(FORMS) if form is None else form
+    goods = some_goods(rng, form, rng.choice((2, 4, 8, 24)), some_amount(rng))
+    return rng.choice((tight, tight, tight, loose))(rng, goods)
+
+
+def large_deal(rng, form):
+    most_amount = rng.choice((1, 9, 1_000, 900_000))
+    if form == LADDER:
+        units = rng.choice((1_000, rng.randint(300, 1_000)))
+        columns = ([rng.randint(0, most_amount) for _ in range(units)] for _ in range(2))
+        goods = Contract(Header(form=LADDER, count=units), *columns)
+    elif form == UNIT_PRICES:
+        goods = some_goods(rng, form, 1_000, most_amount)
+    else:
+        units = rng.choice(LARGE_TABLES)
+        columns = (some_cells(rng, units, min(most_amount, 10_000)) for _ in range(2))
+        goods = Contract(Header(form=TABLE, count=len(units), units=record.padded(units)), *columns)
+    return rng.choice((tight, tight, loose))(rng, goods)
+
+
+def tiny_deal(rng, form):
+    """At most four units and a price of at most eight, for going through all plans; most have several of both."""
+    while True:
+        goods = some_goods(rng, form, 9 if form == TABLE else 4, rng.choice((1, 2, 3, 4)))
+        units = planning.all_units(goods)
+        if units > 4 or units < rng.randint(1, 4):
+            continue
+        contract = rng.choice((tight, tight, tight, loose))(rng, goods)
+        if rng.randint(0, 5) <= contract.header.price <= 8:
+            return contract
+
+
+# Records and areas
+
+def record_of(rng, contract):
+    """The record, with restorable cells blank, given, or mixed."""
+    gives = rng.choice((lambda: False, lambda: True, lambda: rng.random() < 0.5))
+    return record_cases.joined(record_cases.fields_of(contract, gives))
+
+
+def damaged(rng, contract):
+    """A record with one fault or two; of a table often one cell that is too low, the rarest refusal."""
+    draft = record_cases.drafted(rng, contract)
+    faults = rng.sample(record_cases.FAULTS[:-1], rng.choice((1, 1, 2)))
+    if contract.header.form == TABLE and rng.random() < 0.4:
+        faults = [record_cases.lower_cell]
+    for fault in faults:
+        fault(rng, draft)
+    return draft.record()
+
+
+def needed(contract):
+    """The bytes that planning needs: places, sums, order, work."""
+    entries = 2 * planning.all_units(contract) + 1
+    rows = planning.last_place(contract) + 1
+    work = rows * (entries + 1) if contract.header.form == TABLE else 0
+    return [planning.PLACE_SIZE * entries, planning.SUM_SIZE * entries, planning.ORDER_SIZE, work]
+
+
+def longer_lengths(rng, lengths):
+    """Odd remainders, further entries, or nothing more."""
+    return [length + rng.choice((0, 0, 1, 2, 3, 4, 5, 40)) for length in lengths]
+
+
+def short_lengths(rng, lengths):
+    """One area, at times two, a byte or an entry too short, or of no length."""
+    lengths = longer_lengths(rng, lengths) if rng.random() < 0.5 else list(lengths)
+    need = list(lengths)
+    for area in rng.sample(range(4), rng.choice((1, 1, 1, 2))):
+        lengths[area] = max(0, rng.choice((need[area] - 1, need[area] - 2, need[area] - 4, need[area] // 2, 0)))
+    return lengths
+
+
+def filled(rng, lengths):
+    """Areas of these lengths: mostly random bytes, at times zeros or ones."""
+    return [rng.choice((rng.randbytes(length), rng.randbytes(length), bytes(length), b"\xff" * length))
+            for length in lengths]
+
+
+# Planning
+
+def plan_case(rng, kind, contract, lengths=None):
+    lengths = longer_lengths(rng, needed(contract)) if lengths is None else lengths
+    return PlanCase(kind, record_of(rng, contract), *filled(rng, lengths))
+
+
+def example_plans(rng):
+    cases = []
+    for example in examples.examples():
+        contract = record.parse(example.record)
+        need = needed(contract) if isinstance(contract, Contract) else [40, 80, 8, 40]
+        for lengths in need, longer_lengths(rng, need):
+            cases.append(PlanCase("example " + example.name, example.record, *filled(rng, lengths)))
+    return cases
+
+
+def small_plans(rng, each):
+    return [plan_case(rng, "small " + NAMES[form], small_deal(rng, form)) for form in FORMS for _ in range(each)]
+
+
+def tiny_plans(rng, each):
+    return [plan_case(rng, "tiny " + NAMES[form], tiny_deal(rng, form)) for form in FORMS for _ in range(each)]
+
+
+def large_plans(rng, each):
+    deals = [large_deal(rng, form) for form in FORMS for _ in range(each)] + [unit_by_unit(1_000)]
+    return [plan_case(rng, "large " + NAMES[deal.header.form], deal) for deal in deals]
+
+
+def area_plans(rng, each):
+    """For every deal areas of exactly the needed lengths, then each area in turn at its edges, then some at random."""
+    cases = []
+    for form in FORMS:
+        for _ in range(each):
+            contract = small_deal(rng, form)
+            need = needed(contract)
+            lengths = [need] + [changed(need, area, more)
+                                for area in range(4) for more in (-need[area], -4, -2, -1, 1, 3)]
+            lengths += [short_lengths(rng, need) for _ in range(4)] + [[0, 0, 0, 0]]
+            cases += [plan_case(rng, "areas " + NAMES[form], contract, some) for some in lengths]
+    return cases
+
+
+def changed(lengths, area, more):
+    return [max(0, length + more) if i == area else length for i, length in enumerate(lengths)]
+
+
+def damaged_plans(rng, count):
+    """Damaged records, with good and with short areas: the record's refusals stand first."""
+    cases = []
+    for i in range(count):
+        contract = small_deal(rng, FORMS[i % 3])
+        lengths = rng.choice((longer_lengths, longer_lengths, short_lengths))(rng, needed(contract))
+        cases.append(PlanCase("damaged", damaged(rng, contract), *filled(rng, lengths)))
+    return cases
+
+
+def extreme_plans(rng, count):
+    """Amounts up to the limit, mostly far from any plan; some make every state safe."""
+    contracts = [record_cases.some_contract(rng, FORMS[i % 3]) for i in range(count)]
+    contracts += [with_deal(contract, rng.choice((0, MOST_MONEY)), MOST_MONEY, MOST_MONEY)
+                  for contract in contracts[::2]]
+    return [plan_case(rng, "extreme", contract) for contract in contracts]
+
+
+def plan_cases(seed, scale=1):
+    rng = random.Random(seed)
+    return [*example_plans(rng), *tiny_plans(rng, 400 * scale), *small_plans(rng, 600 * scale),
+            *area_plans(rng, 20 * scale), *damaged_plans(rng, 900 * scale), *extreme_plans(rng, 300 * scale),
+            *large_plans(rng, 15 * scale)]
+
+
+# Orders
+
+def some_order(rng, contract):
+    """Right order bytes for unit prices, else zeros."""
+    count = contract.header.count if contract.header.form == UNIT_PRICES else 0
+    return planning.order_bytes(rng.sample(range(1, count + 1), count))
+
+
+def wrong_order(rng, order):
+    """Order bytes with a fault, or at least others: an item twice, none, one too many, a byte after the last, cut."""
+    order = bytearray(order)
+    i, j = rng.randrange(len(order)), rng.randrange(len(order))
+    fault = rng.randrange(6)
+    if fault < 3:
+        order[i] = (order[j], 0, rng.choice((1, 9, 255, order[i] + 1)) % 256)[fault]
+    elif fault == 3:
+        order[i], order[j] = order[j], order[i]
+    elif fault == 4:
+        order[-1] = rng.randint(1, 9)
+    else:
+        del order[rng.choice((7, 0, 4)):]
+    return bytes(order)
+
+
+def with_tail(rng, order):
+    """Bytes after the eighth do not count."""
+    return order + rng.randbytes(rng.choice((0, 0, 1, 8)))
+
+
+# Bounds
+
+def bounds_case(rng, contract, damage):
+    last = planning.last_place(contract)
+    place = rng.choice((0, last, rng.randint(0, last), rng.randint(0, last), last + 1, MAX_U16))
+    order = with_tail(rng, some_order(rng, contract))
+    if rng.random() < 0.3:
+        order = wrong_order(rng, order)
+    data = damaged(rng, contract) if damage else record_of(rng, contract)
+    return BoundsCase("bounds " + ("damaged" if damage else NAMES[contract.header.form]), data, place, order)
+
+
+def bounds_cases(seed, scale=1):
+    rng = random.Random(seed)
+    cases = [bounds_case(rng, small_deal(rng, form), damage=False) for form in FORMS for _ in range(700 * scale)]
+    cases += [bounds_case(rng, small_deal(rng), damage=True) for _ in range(300 * scale)]
+    cases += [bounds_case(rng, record_cases.some_contract(rng), damage=False) for _ in range(300 * scale)]
+    return cases + [bounds_case(rng, large_deal(rng, form), damage=False) for form in FORMS for _ in range(10 * scale)]
+
+
+# Brought plans: lists of states, changed in one way each
+
+@dataclass
+class Brought:
+    contract: Contract
+    deal: planning.Deal
+    items: tuple
+    steps: list
+
+
+def brought(rng, contract):
+    """Ours, or another walk along bounds; where no plan exists, states at random."""
+    found = planning.plan_of(contract)
+    steps, items = found or (None, rng.sample(range(1, contract.header.count + 1), contract.header.count))
+    items = tuple(items) if contract.header.form == UNIT_PRICES else ()
+    deal = planning.deal_of(contract, items)
+    if steps is None:
+        steps = sorted((rng.randint(0, deal.last), rng.randint(0, deal.price)) for _ in range(rng.randint(0, 4)))
+        steps.append((deal.last, deal.price))
+    elif rng.random() < 0.4:
+        steps = slower(rng, deal, steps)
+    return Brought(contract, deal, items, steps)
+
+
+def slower(rng, deal, steps):
+    """A safe plan that at times delivers or pays less than ours does, each step within our own states."""
+    path = [planning.START]
+    for state in steps:
+        (a, p), (b, q) = path[-1], state
+        choices = [(b, q), (a, q), (b, p), (b, rng.randint(min(p, q), q))]
+        rng.shuffle(choices)
+        path += [choice for choice in choices if deal.is_step(path[-1], choice)][:1]
+    while path[-1] != (deal.last, deal.price) and len(path) < 3 * len(steps) + 4:
+        a, p = path[-1]
+        delivered = max(b for b in range(deal.last + 1) if deal.is_step((a, p), (b, p)))
+        path.append((delivered, min(deal.upper[a], deal.price)))
+    return path[1:]
+
+
+def unchanged(rng, plan):
+    return plan.steps
+
+
+def state_changed(rng, plan):
+    """One place or sum is another one: next to it, at an end, or beyond."""
+    i = rng.randrange(len(plan.steps))
+    place, paid = plan.steps[i]
+    places = (place + 1, place - 1, rng.randint(0, plan.deal.last), plan.deal.last + 1, MAX_U16)
+    sums = (paid + 1, paid - 1, rng.randint(0, plan.deal.price), plan.deal.price + 1, MAX_U32)
+    if rng.random() < 0.5:
+        place = max(0, rng.choice(places))
+    else:
+        paid = max(0, rng.choice(sums))
+    return plan.steps[:i] + [(place, paid)] + plan.steps[i + 1:]
+
+
+def state_dropped(rng, plan):
+    i = rng.randrange(len(plan.steps))
+    return plan.steps[:i] + plan.steps[i + 1:]
+
+
+def state_doubled(rng, plan):
+    """Empty steps, also several in a row; they are safe."""
+    i = rng.randrange(len(plan.steps))
+    return plan.steps[:i] + plan.steps[i:i + 1] * rng.randint(2, 4) + plan.steps[i + 1:]
+
+
+def empty_start(rng, plan):
+    """Steps at the start that move nothing."""
+    return [planning.START] * rng.randint(1, 3) + plan.steps
+
+
+def needless_step(rng, plan):
+    """One step parted into two, delivery first or payment first."""
+    i = rng.randrange(len(plan.steps))
+    (a, p), (b, q) = ([planning.START] + plan.steps)[i:i + 2]
+    return plan.steps[:i] + [rng.choice(((b, p), (a, q)))] + plan.steps[i:]
+
+
+def swapped(rng, plan):
+    """Falling places or sums."""
+    i, j = rng.randrange(len(plan.steps)), rng.randrange(len(plan.steps))
+    steps = list(plan.steps)
+    steps[i], steps[j] = steps[j], steps[i]
+    return steps
+
+
+def places_swapped(rng, plan):
+    """The places of one plan with the sums of another order."""
+    others = swapped(rng, plan)
+    return [(place, paid) for (place, _), (_, paid) in zip(others, plan.steps)]
+
+
+def cut_short(rng, plan):
+    return plan.steps[:rng.randrange(len(plan.steps) + 1)]
+
+
+def all_at_once(rng, plan):
+    return [(plan.deal.last, plan.deal.price)]
+
+
+def merged(rng, plan):
+    """Two neighbouring steps as one: mostly a delivery before the payment that it needs."""
+    return plan.steps[1::2] if len(plan.steps) % 2 == 0 else plan.steps[::2]
+
+
+CHANGES = (unchanged, unchanged, state_changed, state_changed, state_changed, state_dropped, state_doubled, empty_start,
+           needless_step, needless_step, swapped, places_swapped, cut_short, all_at_once, merged)
+
+
+def plan_areas(rng, steps):
+    """Areas with the steps, then further entries and a remainder."""
+    places = b"".join(place.to_bytes(planning.PLACE_SIZE, "little") for place, _ in steps)
+    sums = b"".join(paid.to_bytes(planning.SUM_SIZE, "little") for _, paid in steps)
+    return [area + rng.randbytes(rng.choice((0, 0, 1, 2, 3, 4, 13))) for area in (places, sums)]
+
+
+def check_case(rng, kind, plan):
+    change = rng.choice(CHANGES)
+    steps = change(rng, plan) if plan.steps else []
+    return brought_case(rng, f"{kind} {change.__name__}", plan, steps)
+
+
+def brought_case(rng, kind, plan, steps):
+    return CheckCase(kind, record_of(rng, plan.contract), len(steps), *plan_areas(rng, steps),
+                     with_tail(rng, planning.order_bytes(plan.items)))
+
+
+def with_other_count(rng, case):
+    """A count beside the plan's, at the end of the shorter area, or above it."""
+    entries = min(len(case.places) // planning.PLACE_SIZE, len(case.sums) // planning.SUM_SIZE)
+    count = rng.choice((0, case.count - 1, case.count + 1, entries, entries + 1, MAX_U16, MAX_U32))
+    return replace(case, kind=case.kind + ", count", count=max(0, count))
+
+
+def with_wrong_order(rng, case):
+    return replace(case, kind=case.kind + ", order", order=wrong_order(rng, case.order))
+
+
+def with_cut_area(rng, case):
+    name = rng.choice(("places", "sums", "order"))
+    area = getattr(case, name)
+    left = max(0, len(area) - rng.choice((1, 2, 4, 8, len(area))))
+    return replace(case, kind=case.kind + ", cut", **{name: area[:left]})
+
+
+def with_damage(rng, case):
+    contract = record.parse(case.record)
+    return replace(case, kind="damaged", record=damaged(rng, contract))
+
+
+def check_cases(seed, scale=1):
+    rng = random.Random(seed)
+    cases = []
+    for form in FORMS:
+        for _ in range(500 * scale):
+            plan = brought(rng, small_deal(rng, form))
+            cases += [check_case(rng, NAMES[form], plan) for _ in range(5)]
+        for _ in range(3 * scale):
+            plan = brought(rng, large_deal(rng, form))
+            cases += [check_case(rng, "large " + NAMES[form], plan) for _ in range(4)]
+    for spoiled in with_other_count, with_wrong_order, with_cut_area, with_damage:
+        for i in range(400 * scale):
+            plan = brought(rng, small_deal(rng, FORMS[i % 3]))
+            cases.append(spoiled(rng, brought_case(rng, "brought", plan, plan.steps)))
+    return cases
+
+
+# Sessions
+
+def fitting_reports(rng, steps, passed=0):
+    """The reports of all steps after those passed, of each step in either order."""
+    reports = []
+    for before, after in list(zip([planning.START] + steps, steps))[passed:]:
+        moves = [(side, after[side]) for side in (planning.DELIVERY, planning.PAYMENT) if after[side] != before[side]]
+        rng.shuffle(moves)
+        reports += moves
+    return reports
+
+
+def disturbed(rng, reports):
+    """With reports that do not fit: off by one, of the other side, made before, not due yet, equal in low bits."""
+    mixed = []
+    for i, (side, number) in enumerate(reports):
+        wrong = [(side, number + 1), (side, max(0, number - 1)), (1 - side, number), reports[i - 1],
+                 reports[min(i + 1, len(reports) - 1)], (side, number + 2 ** 16), (side, 0), (1 - side, 0),
+                 (side, MAX_U32)]
+        mixed += rng.sample(wrong, rng.choice((0, 0, 1, 2)))
+        mixed += [(side, number)] * rng.choice((1, 1, 1, 2))
+    return [(side, min(number, MAX_U32)) for side, number in mixed]
+
+
+def session_case(rng, kind, plan, steps):
+    case = brought_case(rng, kind, plan, steps)
+    reports = fitting_reports(rng, steps)
+    if rng.random() < 0.7:
+        reports = disturbed(rng, reports)
+    after_the_end = [(rng.randrange(2), rng.choice((0, plan.deal.last, plan.deal.price))) for _ in range(2)]
+    return SessionCase(case.kind, case.record, case.count, case.places, case.sums, case.order, None,
+                       tuple(reports + after_the_end))
+
+
+def opened_sessions(rng, count):
+    """Along plans that are safe for the most part, with empty and parted steps."""
+    cases = []
+    while len(cases) < count:
+        plan = brought(rng, small_deal(rng))
+        change = rng.choice((unchanged, state_doubled, empty_start, needless_step, state_changed))
+        if plan.deal.is_plan(plan.steps) or rng.random() < 0.2:
+            cases.append(session_case(rng, "opened " + change.__name__, plan, change(rng, plan)))
+    return cases
+
+
+def invented_sessions(rng, count):
+    """Sessions that no opening produced, on plan bytes that no check has seen."""
+    cases = []
+    for _ in range(count):
+        steps = invented_steps(rng)
+        places, sums = plan_areas(rng, steps)
+        passed = rng.choice((0, 0, *(rng.randint(0, len(steps)) for _ in range(5)), len(steps) + 1, MAX_U32))
+        session = (passed, rng.random() < 0.3, rng.random() < 0.3)
+        reports = disturbed(rng, fitting_reports(rng, steps, passed))[:rng.randint(4, 12)]
+        reports += [near_entry(rng, steps, passed) for _ in range(2)]
+        entries = min(len(places) // planning.PLACE_SIZE, len(sums) // planning.SUM_SIZE)
+        steps_count = rng.choice((len(steps),) * 12 + (0, entries, entries + 1, MAX_U32))
+        cases.append(SessionCase("invented", b"", steps_count, places, sums, bytes(planning.ORDER_SIZE), session,
+                                 tuple(reports)))
+    return cases
+
+
+def invented_steps(rng):
+    """Few different numbers, so that steps without a move are common; they may fall."""
+    places, sums = rng.choice(((2, 2), (3, 3), (MAX_U16, MAX_U32)))
+    steps = [(rng.choice((0, rng.randint(0, places))), rng.choice((0, rng.randint(0, sums))))
+             for _ in range(rng.randint(0, 7))]
+    return [step for step in steps for _ in range(rng.choice((1, 1, 1, 2)))]
+
+
+def near_entry(rng, steps, passed):
+    """A report with a number of a step about the open one, at times off by one."""
+    side = rng.randrange(2)
+    near = steps[passed:passed + 1] * 3 + steps[max(0, passed - 1):passed + 3] or steps[-2:] or [(0, 0)]
+    number = rng.choice(near)[side] + rng.choice((0, 0, 0, 0, 0, 0, 1, -1, 2 ** 16))
+    return side, min(max(number, 0), MAX_U32)
+
+
+def session_cases(seed, scale=1):
+    rng = random.Random(seed)
+    long = brought(rng, unit_by_unit(150))
+    return [*opened_sessions(rng, 1_500 * scale), *invented_sessions(rng, 3_000 * scale),
+            session_case(rng, "opened, long", long, long.steps)]
+
+
+def unit_by_unit(units):
+    """A ladder with the most steps that a plan can have: payments and single units by turns, payments at both ends."""
+    return Contract(Header(2 * units, 1, 1, LADDER, units), [2] * units, [2] * units)
+
+
+def few_cases(seed):
+    """A small batch of each kind."""
+    rng = random.Random(seed)
+    return (example_plans(rng), [bounds_case(rng, small_deal(rng, form), False) for form in FORMS for _ in range(10)],
+            [check_case(rng, NAMES[form], brought(rng, small_deal(rng, form))) for form in FORMS for _ in range(10)],
+            [*opened_sessions(rng, 20), *invented_sessions(rng, 20)])

@@ -1,0 +1,383 @@
+"""Tries planning.py against the paper's cases and, on tiny deals, against going through all plans.
+
+usage: python3 tests/reference/selftest.py [SEED]
+
+Prints how many checks passed. The first check that fails ends the run with a message.
+"""
+import random
+import struct
+import sys
+from itertools import islice
+
+import brute
+import planning
+import planning_cases
+import record
+from planning import DELIVERY, PAYMENT
+from record import LADDER, TABLE, UNIT_PRICES
+
+TINY_DEALS = 3_000     # of each form
+MOST_LISTED = 300      # plans of one deal that are listed one by one
+MIDDLE_DEALS = 60      # tables with more rows and a greater price
+
+ROOM = 9_000           # bytes, enough for every area of the cases below but a table's work area
+WORK = 40_000
+
+passed = 0
+
+
+def expect(got, wanted, what):
+    global passed
+    if got != wanted:
+        sys.exit(f"FAILED: {what}\n  got     {got}\n  wanted  {wanted}")
+    passed += 1
+
+
+# The paper's records, byte by byte
+
+def amounts(*numbers):
+    return struct.pack(f"<{len(numbers)}I", *numbers)
+
+
+def deal_bytes(form_bit, price, supplier, buyer):
+    bits = 1 << form_bit | (price > 0) | (supplier > 0) << 1 | (buyer > 0) << 2
+    return struct.pack("<H", bits) + amounts(*(amount for amount in (price, supplier, buyer) if amount))
+
+
+def ladder(deal, rises):
+    return deal_bytes(3, *deal) + struct.pack("<H", len(rises)) + b"".join(amounts(*rise) for rise in rises)
+
+
+def unit_prices(deal, items):
+    lines = (bytes([units]) + amounts(cost, value) for units, cost, value in items)
+    return deal_bytes(4, *deal) + bytes([len(items)]) + b"".join(lines)
+
+
+def table(deal, units, costs, values):
+    """Every cell is given."""
+    row_map = (2 ** len(costs) - 1).to_bytes((len(costs) + 7) // 8, "little")
+    return deal_bytes(5, *deal) + bytes([len(units), *units]) + row_map + amounts(*costs) + row_map + amounts(*values)
+
+
+A = bytes.fromhex("0f00 0a000000 01000000 03000000 0200 04000000 06000000 04000000 06000000")
+A_STEPS = [(0, 3), (1, 3), (1, 7), (2, 7), (2, 10)]
+A_RISES = [(4, 6), (4, 6)]
+F = table((22, 2, 2), (1, 4), (0, 5, 9, 13, 17, 10, 13, 16, 18, 19), (0, 3, 6, 10, 14, 6, 10, 15, 20, 26))
+G_ITEMS = [(1, 5, 3), (1, 3, 6)]
+
+# units, cost and value of a unit in cents: MSFT, HWP, DELL, EBAY, PG; the figure delivers 3, 5, 4, 1, 2
+STOCKS = [(60, 9_081, 9_800), (30, 10_263, 10_990), (10, 4_181, 4_250), (100, 12_025, 12_725), (40, 8_510, 8_844)]
+STOCK_DEAL = (2_586_460, 100_000, 150_000)
+STOCK_ORDER = (3, 5, 4, 1, 2)
+
+ZEROS = bytes(8)
+
+
+def planned(data):
+    return planning.plan(data, ROOM, ROOM, 8, WORK)
+
+
+def steps_reply(steps, order=ZEROS):
+    return "steps", steps, order
+
+
+def refused(number):
+    return "refused", number
+
+
+def areas(steps):
+    places, sums = ([state[side] for state in steps] for side in (DELIVERY, PAYMENT))
+    return struct.pack(f"<{len(steps)}H", *places), struct.pack(f"<{len(steps)}I", *sums)
+
+
+def paper_cases():
+    expect(len(A), 32, "A's record has 32 bytes")
+    expect(A, ladder((10, 1, 3), A_RISES), "A's record")
+    expect([planning.bounds(A, place, ZEROS) for place in range(3)], [(-5, 3), (1, 7), (7, 11)], "A's bounds")
+    expect(planning.bounds(A, 3, ZEROS), refused(5), "A's bounds beyond the last place")
+    expect(planned(A), steps_reply(A_STEPS), "A")
+    expect(planned(ladder((10, 1, 2), A_RISES)), refused(9), "B")
+    expect(planned(ladder((7, 1, 3), A_RISES)), steps_reply([(1, 0), (1, 4), (2, 4), (2, 7)]), "C")
+    expect(planned(ladder((6, 1, 3), A_RISES)), refused(9), "D")
+    expect(planned(ladder((0, 0, 0), [(0, 0)])), steps_reply([(1, 0)]), "E")
+    expect(planned(F), steps_reply([(1, 5), (1, 10), (4, 10), (4, 22), (9, 22)]), "F, its earliest rows")
+    expect(planning.check(F, 5, *areas([(2, 5), (3, 14), (4, 18), (4, 22), (9, 22)]), ZEROS), 0, "F, the printed plan")
+    expect(planned(unit_prices((8, 1, 2), G_ITEMS)),
+           steps_reply([(1, 1), (1, 6), (2, 6), (2, 8)], b"\1\2\0\0\0\0\0\0"), "G")
+    expect(planned(unit_prices((8, 1, 1), G_ITEMS)), refused(9), "H")
+    expect(planning.check(A, 5, *areas(A_STEPS), ZEROS), 0, "A's plan is safe")
+    expect(planning.check(A, 3, *areas([(0, 3), (2, 3), (2, 10)]), ZEROS), 12, "J")
+    expect((planned(A[:31]), planned(A + b"\0")), (refused(1), refused(7)), "K")
+    two_ways = table((3, 0, 2), (1, 1), (0, 0, 1, 1), (0, 0, 0, 1))
+    expect(planned(two_ways), steps_reply([(2, 2), (3, 3)]), "the shorter way to a row is not always the better one")
+
+
+def case_i():
+    plan = (5, *areas(A_STEPS))
+    number, session = planning.open(A, *plan, ZEROS)
+    expect((number, session), (0, (0, False, False)), "I, opening")
+    number, session = planning.report(session, *plan, PAYMENT, 3)
+    expect((number, session), (0, (1, False, False)), "I, payment 3")
+    expect(planning.report(session, *plan, DELIVERY, 2), (10, session), "I, delivery 2")
+    expect(planning.report(session, *plan, DELIVERY, 1), (0, (2, False, False)), "I, delivery 1")
+
+
+def other_cases():
+    def long(units):
+        return ladder((0, 0, 0), [(0, 0)] * units)
+
+    expect(planned(long(1_000)), steps_reply([(1_000, 0)]), "1,000 units")
+    expect(planned(long(1_001)), refused(5), "1,001 units")
+    limit = ((400_000_000, 1), (600_000_000, 1))
+    expect(planned(ladder((0, 0, 0), limit)), refused(9), "total 1,000,000,000 is read")
+    expect(planned(ladder((0, 0, 0), (*limit, (1, 0)))), refused(4), "total 1,000,000,001")
+    rises = [STOCKS[item - 1][1:] for item in STOCK_ORDER for _ in range(STOCKS[item - 1][0])]
+    along = planned(ladder(STOCK_DEAL, rises))
+    expect(len(along[1]), 17, "the stock figure's order as a ladder")
+    order = bytes(STOCK_ORDER).ljust(8, b"\0")
+    expect(planned(unit_prices(STOCK_DEAL, STOCKS)), steps_reply(along[1], order), "the stock figure as unit prices")
+    longest = planning.plan_of(planning_cases.unit_by_unit(1_000))
+    expect(len(longest[0]), 2_001, "2U + 1 steps")
+
+
+def refusals_and_areas():
+    """The order of the refusals, and every byte of the areas after each kind of reply."""
+    lent = b"\7" * 13, b"\7" * 23, b"\7" * 9, b"\7" * 3
+    expect(planning.plan(A, 10, 20, 8, 0), steps_reply(A_STEPS), "A, areas just long enough")
+    for lengths in (9, 20, 8, 0), (10, 19, 8, 0), (10, 20, 7, 0):
+        expect(planning.plan(A, *lengths), refused(8), f"A, areas of {lengths}")
+    expect(planning.plan(F, 22, 44, 8, 120)[0], "steps", "F, areas just long enough")
+    expect(planning.plan(F, 22, 44, 8, 119), refused(8), "F, work area too short")
+    expect(planning.plan(A[:31], 0, 0, 0, 0), refused(1), "a record's refusal stands before 8")
+    expect(planning.areas_after(A, planned(A), *lent),
+           (bytes.fromhex("0000 0100 0100 0200 0200 0000 07"),
+            bytes.fromhex("03000000 03000000 07000000 07000000 0a000000 070707"), ZEROS + b"\7", bytes(3)), "A's areas")
+    expect(planning.areas_after(A, refused(9), *lent), (*lent[:3], bytes(3)), "areas after 9")
+    for number in (1, 2, 3, 4, 5, 6, 7, 8):
+        expect(planning.areas_after(A, refused(number), *lent), lent, f"areas after {number}")
+    g, two, one = unit_prices((8, 1, 2), G_ITEMS), b"\2\1\0\0\0\0\0\0", b"\1\1\0\0\0\0\0\0"
+    expect([planning.bounds(g, place, two) for place in range(3)], [(-3, 1), (3, 4), (6, 9)], "G's bounds, other order")
+    expect(planning.bounds(g, 1, two + b"\5"), (3, 4), "a ninth order byte does not count")
+    expect((planning.bounds(g, 3, one[:7]), planning.bounds(g, 3, one), planning.bounds(g, 2, one)),
+           (refused(8), refused(5), refused(12)), "8, then 5, then 12")
+    expect(planning.check(A, 0, b"", b"", ZEROS), 12, "a plan of no steps")
+    expect(planning.check(A, 6, *areas(A_STEPS), ZEROS), 8, "a count above the areas")
+    expect(planning.check(A, 5, *areas(A_STEPS), b"\1" + bytes(7)), 12, "order bytes for a ladder")
+
+
+# Tiny deals against all plans
+
+def tiny_deal(rng, contract):
+    """What the planner says of one deal, against all safe plans of all orders."""
+    found = planning.plan_of(contract)
+    expect(found is not None, brute.some_plan_exists(contract), f"whether a plan exists: {contract}")
+    if found is None:
+        return
+    steps, items = found
+    world = brute.own_world(contract, items)
+    ways = brute.all_steps(world)
+    layers = brute.layers(world, ways)
+    expect(brute.is_plan(world, ways, steps), True, f"a safe plan: {contract} {steps}")
+    expect(len(steps), brute.least_count(world, layers), f"fewest steps: {contract} {steps}")
+    listed_plans(contract, world, ways, layers)
+    if contract.header.form == TABLE:
+        expect([row for row, _ in steps], brute.earliest_rows(world, ways, len(steps)), f"earliest rows: {contract}")
+    else:
+        nobody_is_ahead(contract, steps, layers)
+    changed_plans(rng, contract, world, ways)
+
+
+def nobody_is_ahead(contract, steps, layers):
+    """After every k steps no safe plan along our order has delivered or been paid more."""
+    for k, (ours, rivals) in enumerate(zip([planning.START, *steps], brute.greatest(layers))):
+        expect(ours[0] >= rivals[0] and ours[1] >= rivals[1], True, f"ahead after {k} steps: {contract} {steps}")
+
+
+def listed_plans(contract, world, ways, layers):
+    """Where the plans are few, they are listed one by one: the layers hold exactly their states."""
+    plans = list(islice(brute.all_plans(world, ways), MOST_LISTED + 1))
+    if len(plans) <= MOST_LISTED:
+        longest = max(map(len, plans))
+        listed = [{([brute.START] + plan)[k] for plan in plans if k <= len(plan)} for k in range(longest + 1)]
+        expect(listed, layers, f"all plans one by one: {contract}")
+        expect(min(map(len, plans)), brute.least_count(world, layers), f"fewest of all plans: {contract}")
+
+
+def changed_plans(rng, contract, world, ways):
+    """Brought plans, most of them changed, are safe exactly if all their steps are among all steps."""
+    plan = planning_cases.brought(rng, contract)
+    for change in rng.sample(planning_cases.CHANGES, 4):
+        states = change(rng, plan)
+        data = record.write(contract.header, contract.costs, contract.values, ROOM)
+        number = planning.check(data, len(states), *areas(states), planning.order_bytes(plan.items))
+        expect(number, 0 if brute.is_plan(world, ways, states) else 12, f"{change.__name__}: {contract} {states}")
+
+
+def picks_of_units(contract):
+    """The order for unit prices once more, unit by unit from the bounds: each pick is the best that was admitted."""
+    found = planning.plan_of(contract)
+    if found is None:
+        return
+    items = found[1]
+    deal = planning.deal_of(contract, items)
+    gap = [upper - lower for lower, upper in zip(deal.lower, deal.upper)]
+    gains = [item for item in items if gain(contract, item) >= 0]
+    expect(items[:len(gains)], tuple(gains), f"gaining items come first: {contract}")
+    ends = [sum(contract.header.units[item - 1] for item in items[:k]) for k in range(len(items) + 1)]
+    for k, item in enumerate(items):
+        if k < len(gains):
+            others = [i for i in items[k:len(gains)] if contract.values[i - 1] <= gap[ends[k]]]
+        else:
+            others = [i for i in items[len(gains):k + 1] if contract.costs[i - 1] <= gap[ends[k + 1]]]
+        expect(item, min(others, key=lambda i: (-abs(gain(contract, i)), i)), f"pick {k + 1}: {contract}")
+
+
+def gain(contract, item):
+    return contract.costs[item - 1] - contract.values[item - 1]
+
+
+def tiny_deals(rng):
+    for form in (LADDER, UNIT_PRICES, TABLE):
+        for _ in range(TINY_DEALS):
+            contract = planning_cases.tiny_deal(rng, form)
+            tiny_deal(rng, contract)
+            if form == UNIT_PRICES:
+                picks_of_units(contract)
+
+
+def middle_tables(rng):
+    left = MIDDLE_DEALS
+    while left:
+        contract = planning_cases.tight(rng, planning_cases.some_goods(rng, TABLE, 18, 5))
+        if len(contract.costs) > 9 and 8 < contract.header.price < 25:
+            tiny_deal(rng, contract)
+            left -= 1
+
+
+# The generated cases, where another way to the result is at hand
+
+def generated_plans(seed):
+    """Whether a plan exists, by the least leaving costs; and the areas give back a plan that the check takes."""
+    for case in planning_cases.plan_cases(seed):
+        lent = case.places, case.sums, case.order, case.work
+        reply = planning.plan(case.record, *map(len, lent))
+        after = planning.areas_after(case.record, reply, *lent)
+        expect([len(area) for area in after], [len(area) for area in lent], f"lengths of areas: {case}")
+        contract = record.parse(case.record)
+        if reply[0] == "steps":
+            expect(planning.check(case.record, len(reply[1]), *after[:3]), 0, f"the plan in the areas: {case}")
+        if reply[0] == "steps" or reply == refused(9):
+            expect(reply[0] == "steps", can_be_planned(contract), f"whether a plan exists: {case}")
+            if contract.header.form == TABLE:
+                rows = [row for row, _ in reply[1]] if reply[0] == "steps" else None
+                expect(rows, rows_by_needs(contract), f"fewest steps, earliest rows: {case}")
+
+
+def rows_by_needs(contract):
+    """The rows of the table plan once more, from the end: how much must be paid in a row to end in k more steps."""
+    deal = planning.deal_of(contract)
+    above = [[b for b in range(deal.last + 1) if deal.holds(b, a)] for a in range(deal.last + 1)]
+    pays = [min(upper, deal.price) for upper in deal.upper]
+    needs = [{deal.last: deal.price}]
+    while needs[-1].get(0, 1) > 0 and len(needs) <= 2 * planning.all_units(contract) + 1:
+        needs.append({a: min(ways) for a in range(deal.last + 1)
+                      if (ways := [deal.lower[b] for b in above[a] if b in needs[-1] and needs[-1][b] <= pays[a]])})
+    if needs[-1].get(0, 1) > 0 or not deal.safe(*planning.START):
+        return None
+    rows, row, paid = [], 0, 0
+    for need in reversed(needs[:-1]):
+        after = next(b for b in above[row] if deal.lower[b] <= paid and need.get(b, deal.price + 1) <= pays[row])
+        rows.append(after)
+        row, paid = after, pays[row]
+    return rows
+
+
+def can_be_planned(contract):
+    header = contract.header
+    cost, value = planning_cases.whole_rises(contract)
+    start_is_safe = cost - header.supplier <= header.price <= value + header.buyer
+    return start_is_safe and header.supplier + header.buyer >= planning_cases.least_leaving_costs(contract)
+
+
+def generated_sessions(seed):
+    for case in planning_cases.session_cases(seed):
+        if case.session is None:
+            opened_session(case)
+        else:
+            invented_session(case)
+
+
+def opened_session(case):
+    """Against a list of the moves that are outstanding, step by step."""
+    plan = case.count, case.places, case.sums
+    number, session = planning.open(case.record, *plan, case.order)
+    expect(number, planning.check(case.record, *plan, case.order), f"opening: {case}")
+    if number == 0:
+        replies = []
+        for side, value in case.reports:
+            number, session = planning.report(session, *plan, side, value)
+            replies.append((number, planning.finished(session, case.count)))
+        expect(replies, list(outstanding_replies(*plan, case.reports)), f"reports: {case}")
+
+
+def plan_moves(count, places, sums):
+    """For each step the reports that it asks for."""
+    states = [(0, 0)] + [(struct.unpack_from("<H", places, 2 * k)[0], struct.unpack_from("<I", sums, 4 * k)[0])
+                         for k in range(count)]
+    return [{(side, after[side]) for side in (0, 1) if after[side] != before[side]}
+            for before, after in zip(states, states[1:])]
+
+
+def invented_session(case):
+    """Each report by itself: the same session on a refusal, else the open step marked or all done steps passed."""
+    plan = case.count, case.places, case.sums
+    too_long = case.count > len(case.places) // 2 or case.count > len(case.sums) // 4
+    moves = [] if too_long else plan_moves(*plan)
+    session = case.session
+    for reported in case.reports:
+        at, *marks = session
+        outstanding = {move for move in moves[at] if not marks[move[0]]} if at < len(moves) else set()
+        if too_long:
+            wanted = 8, session
+        elif at >= case.count:
+            wanted = 11, session
+        elif reported not in outstanding:
+            wanted = 10, session
+        elif len(outstanding) == 2:
+            wanted = 0, (at, reported[0] == DELIVERY, reported[0] == PAYMENT)
+        else:
+            wanted = 0, (next((k for k in range(at + 1, case.count) if moves[k]), case.count), False, False)
+        got = planning.report(session, *plan, *reported)
+        expect(got, wanted, f"report {reported} to {session}: {case}")
+        session = got[1]
+
+
+def outstanding_replies(count, places, sums, reports):
+    moves = [step for step in plan_moves(count, places, sums) if step]
+    for reported in reports:
+        if not moves:
+            yield 11, True
+        elif reported in moves[0]:
+            moves[0].remove(reported)
+            moves = [step for step in moves if step]
+            yield 0, not moves
+        else:
+            yield 10, False
+
+
+def main():
+    seed = int(sys.argv[1]) if len(sys.argv) > 1 else 1
+    rng = random.Random(seed)
+    paper_cases()
+    case_i()
+    other_cases()
+    refusals_and_areas()
+    tiny_deals(rng)
+    middle_tables(rng)
+    generated_plans(seed)
+    generated_sessions(seed)
+    print(f"{passed} checks passed")
+
+
+if __name__ == "__main__":
+    main()
