@@ -26,7 +26,7 @@ def ladder(units, costs, price, supplier, buyer):
 
 def deals():
     for units in (250, 500, 1_000):
-        # one unit a delivery and a payment in turn, 2U + 1 steps; and three steps, as the defection costs cover all
+        # a payment and the delivery of one unit in turn; and one step, as the defection costs cover all
         yield f"ladder, {units} units, tight", ladder(units, [10] * units, 10 * units, 10, 0)
         yield f"ladder, {units} units, loose", ladder(units, [10] * units, 10 * units, 10 * units, 10 * units)
     for each in (31, 62, 125):
