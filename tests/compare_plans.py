@@ -20,7 +20,11 @@ from library import BOUNDS_BYTES, SESSION_BYTES  # noqa: E402
 EXAMPLES = Path(__file__).resolve().parent.parent / "examples/records"
 # the examples and what the paper says of them: a refusal, or the step count
 PLANNED = {"case-a": 5, "case-b": -9, "case-c": 4, "case-d": -9, "case-e": 1, "case-f": 5, "case-g": 4, "case-h": -9,
-           "case-k-short": -1, "case-k-long": -7, "stock-ladder": 17}
+           "case-k-short": -1, "case-k-long": -7, "ladder-1001": -5, "total-over": -4, "table-3": 5, "stock-ladder": 17}
+# examples that the paper only says are read: the longest ladder, and the greatest totals
+READ = ("ladder-1000", "total-largest")
+# the plan that the published method prints for its table 3
+PRINTED_PLAN = [(2, 5), (3, 14), (4, 18), (4, 22), (9, 22)]
 
 
 class Difference(Exception):
@@ -43,6 +47,15 @@ def example_plans(lib):
         answer, _, _ = lib.plan(record, bytes(9_000), bytes(9_000), bytes(8), bytes(40_000))
         same(name, "the answer to planning", answer, wanted)
         yield "example"
+    for name in READ:
+        answer = lib.bounds((EXAMPLES / f"{name}.bin").read_bytes(), 0, bytes(8), bytes(BOUNDS_BYTES))[0]
+        same(name, "the answer to a question for bounds", answer, 0)
+        yield "example"
+    places, sums = (b"".join(state[side].to_bytes(size, "little") for state in PRINTED_PLAN) for side, size in ((0, 2), (1, 4)))
+    brought = (EXAMPLES / "table-3.bin").read_bytes(), len(PRINTED_PLAN), places, sums, bytes(8)
+    same("table-3", "the check of the printed plan", lib.check(*brought), planning.check(*brought))
+    same("table-3", "the check of the printed plan", lib.check(*brought), 0)
+    yield "example"
 
 
 def plans(lib, seed, scale):

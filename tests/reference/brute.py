@@ -155,3 +155,24 @@ def is_plan(world, steps, states):
 def some_plan_exists(contract):
     """Whether a rival plan exists in any order."""
     return any(layers(world, all_steps(world)) for world in worlds(contract))
+
+
+# A planner held to all plans
+
+def judged(contract, found):
+    """What a planner found, (steps, items) or None, against all safe plans of all orders: triples of what is judged, whether
+    or how it is, and how it has to be."""
+    yield "whether a plan exists", found is not None, some_plan_exists(contract)
+    if found is None:
+        return
+    steps, items = found
+    world = own_world(contract, items)
+    ways = all_steps(world)
+    rivals = layers(world, ways)
+    yield "a safe plan", is_plan(world, ways, steps), True
+    yield "the number of steps", len(steps), least_count(world, rivals)
+    if contract.header.form == TABLE:
+        yield "the earliest rows", [row for row, _ in steps], earliest_rows(world, ways, len(steps))
+        return
+    for k, (ours, ahead) in enumerate(zip([START, *steps], greatest(rivals))):
+        yield f"ahead along our order after {k} steps", ours[0] >= ahead[0] and ours[1] >= ahead[1], True

@@ -170,27 +170,13 @@ def refusals_and_areas():
 def tiny_deal(rng, contract):
     """What the planner says of one deal, against all safe plans of all orders."""
     found = planning.plan_of(contract)
-    expect(found is not None, brute.some_plan_exists(contract), f"whether a plan exists: {contract}")
-    if found is None:
-        return
-    steps, items = found
-    world = brute.own_world(contract, items)
-    ways = brute.all_steps(world)
-    layers = brute.layers(world, ways)
-    expect(brute.is_plan(world, ways, steps), True, f"a safe plan: {contract} {steps}")
-    expect(len(steps), brute.least_count(world, layers), f"fewest steps: {contract} {steps}")
-    listed_plans(contract, world, ways, layers)
-    if contract.header.form == TABLE:
-        expect([row for row, _ in steps], brute.earliest_rows(world, ways, len(steps)), f"earliest rows: {contract}")
-    else:
-        nobody_is_ahead(contract, steps, layers)
-    changed_plans(rng, contract, world, ways)
-
-
-def nobody_is_ahead(contract, steps, layers):
-    """After every k steps no safe plan along our order has delivered or been paid more."""
-    for k, (ours, rivals) in enumerate(zip([planning.START, *steps], brute.greatest(layers))):
-        expect(ours[0] >= rivals[0] and ours[1] >= rivals[1], True, f"ahead after {k} steps: {contract} {steps}")
+    for what, got, wanted in brute.judged(contract, found):
+        expect(got, wanted, f"{what}: {contract} {found}")
+    if found:
+        world = brute.own_world(contract, found[1])
+        ways = brute.all_steps(world)
+        listed_plans(contract, world, ways, brute.layers(world, ways))
+        changed_plans(rng, contract, world, ways)
 
 
 def listed_plans(contract, world, ways, layers):
