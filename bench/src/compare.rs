@@ -1,0 +1,221 @@
+//! Compares the library and the reference on pseudo-random records of all forms, damaged ones too: every answer and every
+//! byte of every area must be the same.
+
+use crate::brought::{some_order, some_plan, Brought};
+use crate::damage::damage;
+use crate::deals::{Areas, Deal};
+use crate::plain;
+use crate::program::{Program, LIBRARY, REFERENCE};
+use crate::random::Random;
+use crate::sample::{self, Sample};
+use std::fmt::Debug;
+
+/// How many disagreements are printed whole.
+const SHOWN: usize = 20;
+
+#[derive(Default)]
+struct Tally {
+    records: u64,
+    calls: u64,
+    plans: u64,
+    searched: u64,
+    disagreements: usize,
+    /// How often the library refused a call with each number; at 0, how often it did not refuse.
+    answers: [u64; 13],
+}
+
+/// Compares `count` records; true if all agree.
+pub fn run(count: u64) -> bool {
+    let mut random = Random::new(0x005e_ed0f_a11d_ea15);
+    let mut tally = Tally::default();
+    for _ in 0..count {
+        let sample = sample::any(&mut random);
+        let mut record = sample.deal.record.clone();
+        let whole = !random.once_in(3);
+        if !whole {
+            damage(&mut random, &mut record);
+        }
+        tally.records += 1;
+        let mut case = Case { tally: &mut tally, random: &mut random, record: &record, deal: &sample.deal };
+        case.all(whole.then_some(&sample));
+    }
+    tally.print();
+    tally.disagreements == 0
+}
+
+impl Tally {
+    fn print(&self) {
+        println!("records {}, of these planned {}", self.records, self.plans);
+        println!("calls compared {}", self.calls);
+        println!("answers held to a plain search {}", self.searched);
+        let numbers = self.answers.iter().enumerate().skip(1);
+        let refusals: Vec<String> = numbers.map(|(number, count)| format!("{number}: {count}")).collect();
+        println!("refusals by number {}", refusals.join(", "));
+        println!("disagreements {}", self.disagreements);
+    }
+}
+
+/// One record under comparison.
+struct Case<'a> {
+    tally: &'a mut Tally,
+    random: &'a mut Random,
+    record: &'a [u8],
+    deal: &'a Deal,
+}
+
+impl Case<'_> {
+    /// `sample` is what the record says, unless it is damaged.
+    fn all(&mut self, sample: Option<&Sample>) {
+        let (steps, planned) = self.plan(self.deal.areas(0));
+        self.tally.plans += (steps > 0) as u64;
+        if let Some(sample) = sample {
+            self.search(sample, steps);
+        }
+        let lent = self.varied();
+        self.plan(lent);
+        self.bounds(&planned);
+        let steps = steps.max(0) as usize;
+        for _ in 0..3 {
+            self.check(&planned, steps);
+        }
+        self.session(&planned, steps);
+    }
+
+    /// Makes a call to both programs. Counts it, prints it if the results differ, and hands on the library's result.
+    fn both<T: PartialEq + Debug>(&mut self, what: impl Debug, call: impl Fn(&Program) -> T) -> T {
+        let (ours, theirs) = (call(&LIBRARY), call(&REFERENCE));
+        self.tally.calls += 1;
+        if ours != theirs {
+            self.disagree(what, [("library", &ours), ("reference", &theirs)]);
+        }
+        ours
+    }
+
+    fn disagree<T: Debug>(&mut self, what: impl Debug, results: [(&str, T); 2]) {
+        self.tally.disagreements += 1;
+        if self.tally.disagreements <= SHOWN {
+            println!("DISAGREE {what:?}");
+            results.iter().for_each(|(who, result)| println!("  {who}: {result:?}"));
+            println!("  record: {}", self.record.iter().map(|byte| format!("{byte:02x}")).collect::<String>());
+        }
+    }
+
+    /// Counts an answer of the library.
+    fn seen(&mut self, answer: u32) {
+        self.tally.answers[(answer as usize).min(12)] += 1;
+    }
+
+    /// Plans into areas of random bytes, as long as those that are handed in.
+    fn plan(&mut self, mut lent: Areas) -> (i64, Areas) {
+        for area in lent.each_mut() {
+            area.iter_mut().for_each(|byte| *byte = self.random.byte());
+        }
+        let record = self.record;
+        let (steps, areas) = self.both("plan", |program| {
+            let mut areas = lent.clone();
+            (program.plan_into(record, &mut areas), areas)
+        });
+        self.seen(steps.min(0).unsigned_abs() as u32);
+        (steps, areas)
+    }
+
+    /// Areas of other lengths: longer, with odd ends, sometimes too short.
+    fn varied(&mut self) -> Areas {
+        let mut areas = self.deal.areas(0);
+        for area in areas.each_mut() {
+            let length = match self.random.below(12) {
+                0 => self.random.below(area.len() as u64 + 1) as usize,
+                1 => area.len().saturating_sub(1),
+                2..=5 => area.len() + self.random.below(12) as usize,
+                _ => area.len(),
+            };
+            area.resize(length, 0);
+        }
+        areas
+    }
+
+    /// Holds the number of steps to a plain search, where the deal is small.
+    fn search(&mut self, sample: &Sample, steps: i64) {
+        let Some(expected) = plain::expect(sample) else {
+            return;
+        };
+        self.tally.searched += 1;
+        if !expected.allows(steps) {
+            self.disagree("plan", [("both", format!("{steps}")), ("plain search", format!("{expected:?}"))]);
+        }
+    }
+
+    fn bounds(&mut self, planned: &Areas) {
+        let last = self.deal.last_place() as u64;
+        for place in [0, last, last + 1, self.random.below(last + 3), self.random.below(last + 1), u64::MAX] {
+            let order = some_order(self.random, planned);
+            let length = if self.random.once_in(8) { self.random.below(20) } else { 16 } as usize;
+            let record = self.record;
+            let (answer, _) = self.both(("bounds", place, &order, length), |program| {
+                let mut bounds = vec![0xa5; length];
+                ((program.bounds)(record, place as usize, &order, &mut bounds), bounds)
+            });
+            self.seen(answer);
+        }
+    }
+
+    fn check(&mut self, planned: &Areas, steps: usize) {
+        let plan = some_plan(self.random, planned, steps);
+        let (record, count) = (self.record, plan.count);
+        let call = |program: &Program| (program.check)(record, count, &plan.places, &plan.sums, &plan.order);
+        let answer = self.both(("check", &plan), call);
+        self.seen(answer);
+    }
+
+    fn session(&mut self, planned: &Areas, steps: usize) {
+        let plan = some_plan(self.random, planned, steps);
+        let length = if self.random.once_in(8) { self.random.below(14) } else { 10 };
+        let before: Vec<u8> = (0..length).map(|_| self.random.byte()).collect();
+        let record = self.record;
+        let (answer, mut session) = self.both(("open", &plan, length), |program| {
+            let mut session = before.clone();
+            ((program.open)(&mut session, record, plan.count, &plan.places, &plan.sums, &plan.order), session)
+        });
+        self.seen(answer);
+        if answer != 0 {
+            session = self.some_session(plan.count);
+        }
+        for _ in 0..40.min(3 * plan.count + 4) {
+            session = self.report(&plan, session);
+        }
+    }
+
+    /// A session of any kind: reports need no check.
+    fn some_session(&mut self, count: usize) -> Vec<u8> {
+        let random = &mut *self.random;
+        let passed = if random.once_in(5) { random.next() } else { random.below(count as u64 + 2) };
+        let marks = [random.byte() & 3, random.byte() & 3];
+        let mut session = [&passed.to_le_bytes()[..], &marks].concat();
+        session.truncate(random.within(8, 14) as usize);
+        session
+    }
+
+    /// A report, mostly one that fits; the session after it.
+    fn report(&mut self, plan: &Brought, session: Vec<u8>) -> Vec<u8> {
+        let random = &mut *self.random;
+        let passed = session.first_chunk().map_or(0, |bytes| u64::from_le_bytes(*bytes)) as usize;
+        let mut side = random.below(2) as u32;
+        let mut number = plan.entry(side, passed);
+        match random.below(12) {
+            0 => number = number.wrapping_add(1),
+            1 => number = number.wrapping_add(1 << 16),
+            2 => number = plan.entry(side, passed.wrapping_add(1)),
+            3 => side = random.next() as u32,
+            _ => {}
+        }
+        let count = if random.once_in(12) { random.below(plan.count as u64 + 3) as usize } else { plan.count };
+        let (answer, after, _) = self.both(("report", side, number, count, &session, plan), |program| {
+            let mut after = session.clone();
+            let answer = (program.report)(&mut after, count, &plan.places, &plan.sums, side, number);
+            let finished = (program.finished)(&after, count);
+            (answer, after, finished)
+        });
+        self.seen(answer);
+        after
+    }
+}

@@ -1,0 +1,119 @@
+//! A third opinion for small deals: whether a plan exists and how few steps one has, by plain search from the definitions.
+
+use crate::deals::{held, rows, Terms};
+use crate::sample::{Content, Sample};
+
+/// All places of a deal, or all amounts of delivered units.
+struct Places {
+    price: i64,
+    lower: Vec<i64>,
+    upper: Vec<i64>,
+    units: Vec<Vec<usize>>,
+}
+
+fn places(terms: Terms, levels: &[(i64, i64)], units: Vec<Vec<usize>>) -> Places {
+    let last = levels[levels.len() - 1];
+    let price = terms.price as i64;
+    let lower = levels.iter().map(|level| price - last.1 + level.1 - terms.buyer as i64).collect();
+    let upper = levels.iter().map(|level| price - last.0 + level.0 + terms.supplier as i64).collect();
+    Places { price, lower, upper, units }
+}
+
+impl Places {
+    fn safe(&self, place: usize, paid: i64) -> bool {
+        self.lower[place] <= paid && paid <= self.upper[place] && 0 <= paid && paid <= self.price
+    }
+
+    fn holds(&self, place: usize, other: usize) -> bool {
+        self.units[place].iter().zip(&self.units[other]).all(|(more, less)| more >= less)
+    }
+
+    fn is_step(&self, from: (usize, i64), to: (usize, i64)) -> bool {
+        let states = [from, (to.0, from.1), (from.0, to.1), to];
+        self.holds(to.0, from.0) && to.1 >= from.1 && states.iter().all(|state| self.safe(state.0, state.1))
+    }
+
+    /// The fewest steps of a plan, none if there is none. A step that pays the most it can is never worse than another.
+    fn fewest(&self) -> Option<usize> {
+        let last = self.lower.len() - 1;
+        let mut best = vec![None; last + 1];
+        best[0] = Some(0);
+        for steps in 1.. {
+            let mut next = best.clone();
+            for (from, paid) in best.iter().enumerate().filter_map(|(place, paid)| Some((place, (*paid)?))) {
+                let sum = self.upper[from].min(self.price);
+                for to in 0..=last {
+                    if self.is_step((from, paid), (to, sum)) {
+                        next[to] = next[to].max(Some(sum));
+                    }
+                }
+            }
+            if next[last] == Some(self.price) {
+                return Some(steps);
+            }
+            if next == best {
+                return None;
+            }
+            best = next;
+        }
+        None
+    }
+}
+
+/// What planning should answer.
+#[derive(Debug)]
+pub enum Expected {
+    Impossible,
+    /// Along the order that is chosen; another order may need fewer steps.
+    Possible,
+    Steps(usize),
+}
+
+impl Expected {
+    pub fn allows(&self, answer: i64) -> bool {
+        match self {
+            Expected::Impossible => answer == -9,
+            Expected::Possible => answer > 0,
+            Expected::Steps(steps) => answer == *steps as i64,
+        }
+    }
+}
+
+/// What planning a sample should answer; none if the sample is too large for a plain search.
+pub fn expect(sample: &Sample) -> Option<Expected> {
+    let steps = match &sample.content {
+        Content::Ladder(rises) if rises.len() <= 40 => ladder(sample.terms, rises).fewest(),
+        Content::Table(units, costs, values) if costs.len() <= 64 => table(sample.terms, units, costs, values).fewest(),
+        Content::Items(all) => {
+            let units: Vec<u8> = all.iter().map(|item| item.0).collect();
+            let amounts = Some(rows(&units)).filter(|rows| *rows <= 150)?;
+            let fewest = items(sample.terms, all, (0..amounts).map(|row| held(&units, row)).collect()).fewest();
+            return Some(fewest.map_or(Expected::Impossible, |_| Expected::Possible));
+        }
+        _ => return None,
+    };
+    Some(steps.map_or(Expected::Impossible, Expected::Steps))
+}
+
+fn ladder(terms: Terms, rises: &[(u32, u32)]) -> Places {
+    let mut levels = vec![(0, 0)];
+    for (at, rise) in rises.iter().enumerate() {
+        levels.push((levels[at].0 + rise.0 as i64, levels[at].1 + rise.1 as i64));
+    }
+    places(terms, &levels, (0..levels.len()).map(|place| vec![place]).collect())
+}
+
+/// Every order of the units is a way through these amounts of each item.
+fn items(terms: Terms, items: &[(u8, u32, u32)], amounts: Vec<Vec<usize>>) -> Places {
+    let level = |amounts: &Vec<usize>| {
+        let parts = amounts.iter().zip(items).map(|(count, item)| (*count as i64, item));
+        parts.fold((0, 0), |sum, (count, item)| (sum.0 + count * item.1 as i64, sum.1 + count * item.2 as i64))
+    };
+    let levels: Vec<_> = amounts.iter().map(level).collect();
+    places(terms, &levels, amounts)
+}
+
+fn table(terms: Terms, units: &[u8], costs: &[u32], values: &[u32]) -> Places {
+    let levels: Vec<_> = costs.iter().zip(values).map(|(cost, value)| (*cost as i64, *value as i64)).collect();
+    places(terms, &levels, (0..costs.len()).map(|row| held(units, row)).collect())
+}

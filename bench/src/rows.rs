@@ -1,0 +1,196 @@
+//! The rows of the benchmark. In each, library and reference must first give the same; then they are timed.
+
+use crate::carried::Carried;
+use crate::cases::{self, Risk};
+use crate::deals::{Areas, Deal};
+use crate::pass;
+use crate::program::{Program, LIBRARY, REFERENCE};
+use crate::timing::side_by_side;
+use std::hint::black_box;
+
+/// Prints rows as they are timed.
+pub struct Bench {
+    pub rounds: usize,
+    /// Only the deals whose names hold this text.
+    pub only: String,
+}
+
+impl Bench {
+    fn heading(&self, what: &str) {
+        println!("\n### {what}\n");
+        println!("| deal | steps | library ns | reference ns | plain pass ns | library / reference | library / pass |");
+        println!("|---|--:|--:|--:|--:|--:|--:|");
+    }
+
+    fn wanted(&self, name: &str) -> bool {
+        name.contains(&self.only)
+    }
+
+    fn row(&self, name: &str, steps: &str, times: [f64; 3]) {
+        let [library, reference, pass] = times;
+        let (to_reference, to_pass) = (library / reference, library / pass);
+        println!("| {name} | {steps} | {library:.1} | {reference:.1} | {pass:.1} | {to_reference:.2} | {to_pass:.2} |");
+    }
+
+    pub fn all(&self) {
+        self.planning();
+        self.checking();
+        self.reporting();
+        self.reading();
+        self.growth();
+    }
+
+    fn planning(&self) {
+        self.heading("Planning");
+        let risks = [Risk::Great, Risk::Middle, Risk::Small, Risk::None];
+        for risk in risks {
+            self.plan("ladder, 1,000 units", &cases::ladder(1000, risk));
+        }
+        for risk in risks {
+            self.plan("eight items, 1,000 units", &cases::items(1000, risk));
+        }
+        for units in [&[127][..], &[1, 63], &[3, 3, 3, 1]] {
+            for risk in [Risk::Great, Risk::Small, Risk::None] {
+                self.plan(&format!("table, 128 rows, units {units:?}"), &cases::table(units, risk));
+            }
+        }
+    }
+
+    fn plan(&self, name: &str, deal: &Deal) {
+        if !self.wanted(name) {
+            return;
+        }
+        let (steps, mut ours) = agreed_plan(deal);
+        let mut theirs = ours.clone();
+        let mut passed = ours.clone();
+        let times = side_by_side(
+            self.rounds,
+            || call_plan(&LIBRARY, deal, &mut ours),
+            || call_plan(&REFERENCE, deal, &mut theirs),
+            || pass::plan(deal, &mut passed, steps > 0),
+        );
+        let steps = if steps > 0 { steps.to_string() } else { "impossible".to_string() };
+        self.row(name, &steps, times);
+    }
+
+    fn checking(&self) {
+        self.heading("Checking");
+        self.check("ladder, 1,000 units", &cases::ladder(1000, Risk::Small));
+        self.check("eight items, 1,000 units", &cases::items(1000, Risk::Small));
+        self.check("table, 128 rows, units [127]", &cases::table(&[127], Risk::Small));
+        self.check("table, 128 rows, units [1, 63]", &cases::table(&[1, 63], Risk::Small));
+    }
+
+    fn check(&self, name: &str, deal: &Deal) {
+        if !self.wanted(name) {
+            return;
+        }
+        let (steps, plan) = agreed_plan(deal);
+        let count = steps as usize;
+        let call = |program: &Program| {
+            let record = black_box(&deal.record[..]);
+            (program.check)(record, black_box(count), &plan.places, &plan.sums, &plan.order)
+        };
+        assert_eq!((call(&LIBRARY), call(&REFERENCE)), (0, 0), "checks of {name}");
+        let times = side_by_side(
+            self.rounds,
+            || keep(call(&LIBRARY)),
+            || keep(call(&REFERENCE)),
+            || keep(pass::check(deal, &plan, count)),
+        );
+        self.row(name, &steps.to_string(), times);
+    }
+
+    fn reporting(&self) {
+        if !self.wanted("report") {
+            return;
+        }
+        self.heading("Reporting (ladder, 1,000 units; the whole session is given per report)");
+        let deal = cases::ladder(1000, Risk::Small);
+        let (steps, plan) = agreed_plan(&deal);
+        let carried = Carried::new(&deal, &plan, steps as usize);
+        let each = carried.reports.len() as f64;
+        let (mut ours, mut theirs, mut passed) = ([0; 10], [0; 10], [0; 10]);
+        let whole = side_by_side(
+            self.rounds,
+            || carried.session(&LIBRARY, &mut ours),
+            || carried.session(&REFERENCE, &mut theirs),
+            || carried.pass(&mut passed),
+        );
+        assert_eq!(ours, theirs, "sessions");
+        self.row("opening and all 2,001 reports", &steps.to_string(), whole.map(|time| time / each));
+        let middle = carried.until(carried.reports.len() / 2);
+        let (side, number) = carried.reports[carried.reports.len() / 2];
+        let times = side_by_side(
+            self.rounds,
+            || carried.report(&LIBRARY, &mut ours, &middle, side, number),
+            || carried.report(&REFERENCE, &mut theirs, &middle, side, number),
+            || pass::report(&plan, black_box(&mut passed), carried.count / 2),
+        );
+        assert_eq!(ours, theirs, "one report");
+        self.row("one report in the middle", &steps.to_string(), times);
+    }
+
+    fn reading(&self) {
+        self.heading("Reading (bounds of the last place)");
+        self.bounds("ladder, 1,000 units", &cases::ladder(1000, Risk::Small));
+        self.bounds("eight items, 1,000 units", &cases::items(1000, Risk::Small));
+        for units in [&[127][..], &[3, 3, 3, 1]] {
+            self.bounds(&format!("table, units {units:?}, every cell given"), &cases::table(units, Risk::Small));
+            self.bounds(&format!("table, units {units:?}, blank but the last"), &cases::blank_table(units));
+        }
+    }
+
+    fn bounds(&self, name: &str, deal: &Deal) {
+        if !self.wanted(name) {
+            return;
+        }
+        let (_, plan) = agreed_plan(deal);
+        let call = |program: &Program, bounds: &mut [u8; 16]| {
+            let record = black_box(&deal.record[..]);
+            let answer = (program.bounds)(record, deal.last_place(), &plan.order, bounds);
+            black_box((answer, &*bounds));
+            answer
+        };
+        let (mut ours, mut theirs, mut passed) = ([0; 16], [0; 16], [0; 16]);
+        assert_eq!((call(&LIBRARY, &mut ours), call(&REFERENCE, &mut theirs)), (0, 0), "bounds of {name}");
+        assert_eq!(ours, theirs, "bounds of {name}");
+        let times = side_by_side(
+            self.rounds,
+            || keep(call(&LIBRARY, &mut ours)),
+            || keep(call(&REFERENCE, &mut theirs)),
+            || pass::bounds(deal, &plan, black_box(&mut passed)),
+        );
+        self.row(name, "", times);
+    }
+
+    fn growth(&self) {
+        self.heading("Growth (planning with 2U + 1 steps)");
+        for units in [250, 500, 1000] {
+            self.plan(&format!("ladder, {units} units"), &cases::ladder(units, Risk::Small));
+        }
+        for units in [250, 500, 1000] {
+            self.plan(&format!("eight items, {units} units"), &cases::items(units, Risk::Small));
+        }
+    }
+}
+
+/// Uses an answer, so that its call is not left out.
+fn keep(answer: u32) {
+    black_box(answer);
+}
+
+fn call_plan(program: &Program, deal: &Deal, areas: &mut Areas) {
+    black_box(program.plan_into(black_box(&deal.record), areas));
+    black_box(areas);
+}
+
+/// Plans with both: the answer and all areas must be the same.
+fn agreed_plan(deal: &Deal) -> (i64, Areas) {
+    let (mut ours, mut theirs) = (deal.areas(0xa5), deal.areas(0xa5));
+    let steps = LIBRARY.plan_into(&deal.record, &mut ours);
+    assert_eq!(steps, REFERENCE.plan_into(&deal.record, &mut theirs), "number of steps");
+    assert!(steps > 0 || steps == -9, "refused: {steps}");
+    assert!(ours == theirs, "areas of a plan");
+    (steps, ours)
+}
