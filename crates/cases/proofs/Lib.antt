@@ -1,0 +1,16 @@
+-- facts of all cases, and the records read
+pub mod AllFacts
+pub mod Read
+-- how planning can end: of every record, along one order, and over the rows of a table
+pub mod Room
+pub mod OrderBytes
+pub mod Planning
+pub mod Tests
+pub mod OneOrder
+pub mod Ladders
+pub mod TwoItems
+pub mod TableSteps
+-- how a brought plan can go
+pub mod BroughtPlans
+-- the theorem
+pub mod CasesHold

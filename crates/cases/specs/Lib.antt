@@ -1,0 +1,4 @@
+-- what a case says
+pub mod Case
+-- the cases
+pub mod Table
