@@ -1,5 +1,6 @@
 pub mod RowLaws
 pub mod MapLaws
+pub mod RiseLaws
 pub mod FillLaws
 pub mod MarkLaws
 pub mod Restore

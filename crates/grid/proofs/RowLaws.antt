@@ -9,8 +9,8 @@ use native.Mathlib.Decide.{decLt}
 use native.Mathlib.Omega.{arith}
 use borrow.Author.Tests.{ltb-true, leb-true}
 use lib.Dec.{ltb, leb}
-use lib.ListN.{length, getD, set, drop, List·getD-append}
-use lib.Seq.{drop-cons, drop-length, getD-set-same, getD-set-other}
+use lib.ListN.{length, getD, drop, List·getD-append}
+use lib.Seq.{drop-cons, drop-length}
 use Rattle.grid.specs.Rows.{rowsOf, lessOne, largestBelow, rising}
 
 -- ---- the number of rows
@@ -135,15 +135,6 @@ rising-ext us xs ys (suc n) h =
 
 pub rising-front : (us xs ys : List ℕ) (n : ℕ) → n ≤ length xs → rising us (xs ++ ys) n ≡ rising us xs n
 rising-front us xs ys n h = rising-ext us (xs ++ ys) xs n (λ i l. List·getD-append xs ys 0 i (omega arith))
-
--- one more cell is stored
-pub rising-set : (us cells : List ℕ) (r v : ℕ) → r < length cells
-    → rising us (set cells r v) (suc r) ≡ (rising us cells r && leb (largestBelow us cells r) v)
-unfolding rising
-rising-set us cells r v h =
-    let same : (i : ℕ) → i < r → getD (set cells r v) i 0 ≡ getD cells i 0 = λ i l. getD-set-other cells r i v 0 (λ q. omega arith) in
-    ap₂ _&&_ (rising-ext us (set cells r v) cells r same)
-    (ap₂ leb (largest-ext us (set cells r v) cells r same) (getD-set-same cells r v 0 h))
 
 -- rising so far, and the last cell is not below the largest one unit below
 pub rising-last : (us cells : List ℕ) (r : ℕ) → rising us cells (suc r) ≡ true → (rising us cells r ≡ true) × (largestBelow us cells r ≤ getD cells r 0)

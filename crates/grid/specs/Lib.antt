@@ -1,3 +1,4 @@
 pub mod Rows
 pub mod Map
 pub mod Cells
+pub mod Rise

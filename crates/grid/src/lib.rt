@@ -9,6 +9,8 @@ ghost use Rattle.grid.specs.Rows.{rowsOf, largestBelow, rising};
 ghost use Rattle.grid.specs.Map.{bitAt, stands, bitsFrom, marked};
 ghost use Rattle.grid.specs.Cells.{rowMap, Fills};
 
+mod rise;
+
 // A table has at most this many rows.
 pub const MAX_ROWS: usize = 128;
 
@@ -103,9 +105,9 @@ struct Cell {
 }
 
 // The cell of row r: the next given one where its bit stands, else the largest below.
-fn cell_at(map: &[u8], given: &[u8], below: u32, used: usize, r: usize) -> Cell
-    requires { ⌜ used + 1 < 2 ^ 64 ⌝ }
-    ensures { λ c. ⌜ (c .value ≡ cond (stands (now (map .entry)) r) (getD (entries 4 (now (given .entry))) used 0) below) × (c .used ≡ used + bitAt (now (map .entry)) r) ⌝ }
+fn cell_at(units: &[u16], map: &[u8], given: &[u8], cells: &[u32], used: usize, r: usize) -> Cell
+    requires { ⌜ (used + 1 < 2 ^ 64) × (r < length (now cells)) ⌝ }
+    ensures { λ c. ⌜ (c .value ≡ cond (stands (now (map .entry)) r) (getD (entries 4 (now (given .entry))) used 0) (largestBelow (now (units .entry)) (now (cells .entry)) r)) × (c .used ≡ used + bitAt (now (map .entry)) r) ⌝ }
 {
     if stands(map, r) {
         Cell {
@@ -113,14 +115,17 @@ fn cell_at(map: &[u8], given: &[u8], below: u32, used: usize, r: usize) -> Cell
             used: used + 1,
         }
     } else {
-        Cell { value: below, used }
+        Cell {
+            value: largest_below(units, cells, r),
+            used,
+        }
     }
 }
 
 fn still_rising(rises: bool, below: u32, v: u32) -> bool
     ensures { λ r. ⌜ r ≡ (rises && leb below v) ⌝ }
 {
-    if rises { below <= v } else { false }
+    if below <= v { rises } else { false }
 }
 
 // Fills a table's cells from the given ones, and says whether none is below that of a row with one unit less of one item.
@@ -128,17 +133,14 @@ pub fn fill(units: &[u16], map: &[u8], given: &[u8], cells: &mut [u32]) -> bool
     ensures { λ b. ⌜ Fills (now (units .entry)) (now (map .entry)) (entries 4 (now (given .entry))) (now (cells .entry)) b (now (cells .exit)) ⌝ }
 {
     let mut used: usize = 0;
-    let mut rises = true;
     let mut r: usize = 0;
     while r < cells.len() {
-        let below = largest_below(units, cells, r);
-        let c = cell_at(map, given, below, used, r);
+        let c = cell_at(units, map, given, cells, used, r);
         cells[r] = c.value;
         used = c.used;
-        rises = still_rising(rises, below, c.value);
         r += 1;
     }
-    rises
+    rise::all_rise(units, cells)
 }
 
 // The map of the cells that have to be given, and whether none is below that of a row with one unit less of one item.

@@ -7,25 +7,81 @@ use Prim.Native.Nat.{ℕ, _+_, _≤_, _<_}
 use native.Mathlib.Omega.{arith}
 use native.Mathlib.Numerals.{add-one}
 use borrow.Author.Tests.{eqb-true, eq-eqb, leb-true, le-leb, not-true, not-false}
-use lib.Dec.{T, eqb}
+use lib.Dec.{T, eqb, le→leb}
+use lib.IntN.{pos}
+use lib.Signed.{leZ, _≤ℤ_}
 use lib.Ieee.Bits.{is-true}
 use lib.ListN.{length, getD}
 use Rattle.area.specs.Entries.{entries}
 use Rattle.exchange.specs.Deal.{State, Step, Steps, Plan, start, ends}
 use Rattle.exchange.specs.PlanIn.{planIn}
-use Rattle.exchange.specs.Test.{boundsAt, stepTest}
+use Rattle.exchange.specs.Test.{boundsAt, safeTest, stepTest}
+use Rattle.exchange.specs.declared.Bounds.{Bounds}
+use Rattle.exchange.proofs.Int.{leZ-true, ≤-trans}
 use Rattle.exchange.proofs.GivenOrder.Run.{state-eq}
 use Rattle.exchange.proofs.PlanInLaws.{entryIn, plan-none, plan-step, plan-next, plan-end}
 use Rattle.exchange.proofs.TestLaws.{step↔}
 use Rattle.line.specs.Segments.{spread, fits, dealAlong}
 use Rattle.line.specs.CheckPromise.{holdsCount}
-use Rattle.line.specs.Code.{Fit, Known, At, origin}
-use Rattle.line.specs.CheckCode.{Ahead, There, Brought, Judges, cursorBounds}
-use Rattle.line.specs.declared.Cursor.{Cursor}
+use Rattle.line.specs.Code.{sumTo, Fit, Known, At, There, origin}
+use Rattle.line.specs.CheckCode.{Ahead, Brought, Judges, cursorBounds}
+use Rattle.line.specs.declared.place.Cursor.{Cursor}
 use Rattle.exchange.specs.declared.Sides.{Sides}
-use Rattle.line.specs.declared.Totals.{Totals}
-use Rattle.line.proofs.SegmentLaws.{at-origin, fits↔, not-so}
+use Rattle.line.specs.declared.sums.Totals.{Totals}
+use Rattle.line.proofs.SegmentLaws.{sum-up, at-origin, fits↔, not-so}
 use Rattle.line.proofs.PlaceLaws.{cursor-bounds}
+
+-- ---- the test of a step, where both bounds rise
+
+safe↔ : (p : ℕ) (at : Bounds) (P : ℕ) → (safeTest p at P ≡ true) ↔ ((at .lower ≤ℤ pos p) × (pos p ≤ℤ at .upper) × (p ≤ P))
+unfolding safeTest
+safe↔ p at P = (
+  λ e.
+      let f = and-eq-true-iff _ _ .0 e in
+      let g = and-eq-true-iff _ _ .0 (f .0) in
+      (leZ-true _ _ .0 (g .0), leZ-true _ _ .0 (g .1), leb-true _ _ (f .1)),
+  λ h. rw (leZ-true _ _ .1 (h .0), leZ-true _ _ .1 (h .1), le-leb _ _ (h .2)),
+)
+
+module _ (a b : Bounds) (p q P : ℕ) where
+  -- what decides where both bounds rise
+  pub record Tests : Type 0 where
+    pub pays : p ≤ q
+    pub within : q ≤ P
+    pub low : b .lower ≤ℤ pos p
+    pub high : pos q ≤ℤ a .upper
+
+  step-tests : stepTest true a b p q P ≡ true → Tests
+  unfolding stepTest
+  step-tests e =
+      let f = and-eq-true-iff _ _ .0 e in
+      let g = and-eq-true-iff _ _ .0 (f .0) in
+      let h = and-eq-true-iff _ _ .0 (g .0) in
+      let j = and-eq-true-iff _ _ .0 (h .0) in
+      let paid = safe↔ q a P .0 (g .1) in
+      record { pays = leb-true _ _ (j .0); within = paid .2; low = safe↔ p b P .0 (h .1) .0; high = paid .1 }
+
+  tests-step : a .lower ≤ℤ b .lower → a .upper ≤ℤ b .upper → Tests → stepTest true a b p q P ≡ true
+  unfolding stepTest
+  tests-step lows highs t =
+      let more : pos p ≤ℤ pos q = record { le = le→leb p q (t .pays) } in
+      let low = ≤-trans lows (t .low) in
+      let high = ≤-trans more (t .high) in
+      let within : p ≤ P = omega (arith, t .pays, t .within) in
+      rw (le-leb p q (t .pays), safe↔ p a P .1 (low, high, within), safe↔ p b P .1 (t .low, ≤-trans high highs, within), safe↔ q a P .1 (≤-trans low more, t .high, t .within))
+      (safe↔ q b P .1 (≤-trans (t .low) more, ≤-trans (t .high) highs, t .within))
+
+  pub not-step : (Tests → ⊥) → false ≡ stepTest true a b p q P
+  not-step n = sym (not-so _ (λ e. n (step-tests e)))
+
+  -- the last test, where the others are passed
+  pub last-test : a .lower ≤ℤ b .lower → a .upper ≤ℤ b .upper → p ≤ q → q ≤ P → b .lower ≤ℤ pos p → {r : Bool} → r ≡ leZ (pos q) (a .upper)
+      → r ≡ stepTest true a b p q P
+  last-test lows highs pays within low {r} e = go r refl
+    where
+      go : (x : Bool) → r ≡ x → r ≡ stepTest true a b p q P
+      go true y = y ∙ sym (tests-step lows highs (record { pays = pays; within = within; low = low; high = leZ-true _ _ .0 (sym e ∙ y) }))
+      go false y = y ∙ not-step (λ t. subst T (sym (leZ-true _ _ .1 (t .high)) ∙ sym e ∙ y) tt)
 
 -- ---- a brought plan, step by step
 
@@ -87,6 +143,13 @@ module _ (s : Sides) (us cs vs : List ℕ) (n : ℕ) (places sums : List ℕ) wh
         module _ (l : c .place ≤ place) (m : place ≤ t .units) where
           pub ahead : Ahead us cs vs c place
           ahead = record { fit = b .known .fit; at = g .at; from = l; within = omega (arith, b .known .units-are) }
+
+          -- both sums rise on the way
+          pub rises : {to : Cursor} → There us cs vs to place → (c .cost ≤ to .cost) × (c .value ≤ to .value)
+          rises {to} a =
+              let h = a .place-is in
+              let up : (xs : List ℕ) → sumTo xs (c .place) ≤ sumTo xs (to .place) = λ xs. sum-up xs (c .place) (to .place) (omega arith) in
+              (omega (arith, up (spread us cs), g .at .cost-is, a .at .cost-is), omega (arith, up (spread us vs), g .at .value-is, a .at .value-is))
 
           module _ {to : Cursor} (a : There us cs vs to place) {r : Bool} (e : r ≡ stepTest true (cursorBounds s t c) (cursorBounds s t to) paid sum (s .price)) where
             -- the test of the step

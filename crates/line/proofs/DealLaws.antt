@@ -1,19 +1,18 @@
 -- The deal along segments, by the code's numbers: the tests of its bounds, where a delivery stops, and which deals are possible.
 -- Assumes nothing.
 use mathlib.Core.Path.{_≡_, refl, sym, ap, _∙_, subst}
-use mathlib.Core.Logic.{_↔_}
-use mathlib.Core.Bool.{Bool, true, false, not}
+use mathlib.Core.Logic.{_↔_, Iff·trans, dite}
+use mathlib.Core.Bool.{Bool, true, false, not, _&&_, and-eq-true-iff}
 use mathlib.Core.List.{List}
-use Prim.Native.Nat.{ℕ, suc, _+_, _≤_, _<_}
-use native.Mathlib.Nat.{le-trans}
+use Prim.Native.Nat.{ℕ, suc, _+_, _*_, _-_, _≤_, _<_, _^_}
+use native.Mathlib.Nat.{le-trans, mul-le-mul-right, lt-of-mul-lt-mul-right}
 use native.Mathlib.Decide.{decLe}
 use native.Mathlib.Omega.{arith}
-use native.Mathlib.Numerals.{add-one}
 use borrow.Author.Tests.{leb-false, not-true, not-false}
 use lib.Dec.{T}
 use lib.IntN.{pos}
 use lib.Signed.{leZ, _≤ℤ_}
-use lib.ListN.{length}
+use lib.ListN.{length, getD}
 use Rattle.exchange.specs.Bounds.{upperOf, lowerOf}
 use Rattle.exchange.specs.Deal.{State, Safe}
 use Rattle.exchange.specs.Rule.{reach, rule}
@@ -21,7 +20,8 @@ use Rattle.exchange.specs.Possible.{Possible}
 use Rattle.exchange.specs.Test.{safeTest}
 use Rattle.exchange.specs.Work.{Rising, workOf}
 use Rattle.exchange.specs.declared.Sides.{Sides}
-use Rattle.exchange.proofs.Int.{leZ-true}
+use Rattle.exchange.proofs.Int.{leZ-true, ≤-sub}
+use Rattle.exchange.proofs.BoundLaws.{lower-is, upper-is, low↔}
 use Rattle.exchange.proofs.Bridge.{lawful, coins-low, reach-floor}
 use Rattle.exchange.proofs.GivenOrder.Farthest.{farthest, farthest-is}
 use Rattle.exchange.proofs.FormLaws.{ladder-rising}
@@ -30,10 +30,18 @@ use Rattle.exchange.proofs.GivenOrder.Greedy.{OnLine, floor-up}
 use Rattle.exchange.proofs.GivenOrder.RuleLaws.{rule-greedy}
 use Rattle.exchange.proofs.TestLaws.{test↔}
 use Rattle.line.specs.Segments.{spread, dealAlong}
-use Rattle.line.specs.Code.{Known, At, Reached, Delivered, Decides, origin, startBounds}
-use Rattle.line.specs.declared.Cursor.{Cursor}
-use Rattle.line.specs.declared.Totals.{Totals}
-use Rattle.line.proofs.SegmentLaws.{sum-zero, at-origin}
+use Rattle.line.specs.Code.{sumTo, Known, At, Open, There, Reached, Delivered, Decides, origin, startBounds, meet}
+use Rattle.line.specs.declared.place.Cursor.{Cursor}
+use Rattle.line.specs.declared.sums.Totals.{Totals}
+use Rattle.line.proofs.SegmentLaws.{sum-zero, at-origin, not-so, place-on, cost-on, value-on, value-fits, cost-there, value-there}
+
+-- two sides that rise by constants: in order at first and after i and j rises, they are so after i
+between : (a b v x i j : ℕ) → a ≤ b → a + (i + j) * v ≤ b + (i + j) * x → a + i * v ≤ b + i * x
+between a b v x i j p q = go (decLe v x)
+  where
+    go : Dec (v ≤ x) → a + i * v ≤ b + i * x
+    go (yes h) = omega (arith, mul-le-mul-right i h)
+    go (no h) = omega (arith, mul-le-mul-right {m = x} {n = v} j (omega arith))
 
 -- ---- the deal
 
@@ -116,26 +124,103 @@ module _ (s : Sides) (us cs vs : List ℕ) where
           no-gap = λ i (l : i < 0). absurd (omega arith);
         })
 
-    module _ (c n : Cursor) (a : At us cs vs c) (m : At us cs vs n) (e : n .place ≡ c .place + 1) where
-      -- the test of a gap
-      gap-test : leZ (lowerOf (s .price) (t .value) (n .value) (s .buyer)) (upperOf (s .price) (t .cost) (c .cost) (s .supplier))
-          ≡ leZ (dealAlong s us cs vs .lower (suc (c .place))) (dealAlong s us cs vs .upper (c .place))
-      gap-test = rw (lower-at n m, upper-at c a, e, add-one (c .place))
+    -- a gap as an order of sums
+    meet↔ : (cost value : ℕ) → (meet s t cost value ≡ true) ↔ (s .price + value + t .cost ≤ s .price + cost + s .supplier + (t .value + s .buyer))
+    meet↔ cost value =
+        rw (lower-is (s .price) (t .value) value (s .buyer), upper-is (s .price) (t .cost) cost (s .supplier))
+        (Iff·trans (leZ-true _ _) (≤-sub (s .price + value) (t .value + s .buyer) (s .price + cost + s .supplier) (t .cost)))
 
-      pub gap-none : c .place < t .units → (b : Bool)
-          → b ≡ leZ (lowerOf (s .price) (t .value) (n .value) (s .buyer)) (upperOf (s .price) (t .cost) (c .cost) (s .supplier))
-          → not b ≡ true → Decides (dealAlong s us cs vs) false
-      gap-none l b f h =
-          none (λ p. subst T (sym (leZ-true _ _ .1 (p .no-gap (c .place) (rw (← k .units-are) l))) ∙ sym (f ∙ gap-test) ∙ not-true b h) tt)
+    -- to is where the n units left of the cursor's segment end
+    module _ (c to : Cursor) (o : Open us cs vs c) (n : ℕ) (e : c .used + n ≡ getD us (c .segment) 0) (m : There us cs vs to (c .place + n)) where
+      some : 0 < n
+      some = omega (arith, o .at .left (o .more))
 
-      pub clear-next : Clear c → (b : Bool)
-          → b ≡ leZ (lowerOf (s .price) (t .value) (n .value) (s .buyer)) (upperOf (s .price) (t .cost) (c .cost) (s .supplier))
-          → not b ≡ false → Clear n
-      clear-next r b f h = record { at = m; safe = r .safe; no-gap = λ i l. before i l (decLe (c .place) i) }
+      -- n units and one unit less of them
+      last-unit : (a : ℕ) → suc (n - 1) * a ≡ n * a
+      last-unit a = let q : suc (n - 1) ≡ n = omega (arith, some) in ap (λ (j : ℕ). j * a) q
+
+      to-cost : to .cost ≡ c .cost + n * getD cs (c .segment) 0
+      to-cost = cost-there us cs vs c o n (omega arith) to m
+
+      to-value : to .value ≡ c .value + n * getD vs (c .segment) 0
+      to-value = value-there us cs vs c o n (omega arith) to m
+
+      -- one unit has this cost and this value
+      pub one-cost : getD cs (c .segment) 0 ≤ to .cost
+      one-cost = omega (arith, to-cost, last-unit (getD cs (c .segment) 0))
+
+      pub one-value : c .value + getD vs (c .segment) 0 < 2 ^ 32
+      one-value = omega (arith, value-fits us cs vs c o 1 (omega (arith, some)))
+
+      -- no gap lies before unit i of them
+      abbrev Joined : ℕ → Type 0
+      Joined i = dealAlong s us cs vs .lower (suc (c .place + i)) ≤ℤ dealAlong s us cs vs .upper (c .place + i)
+
+      joined↔ : (i : ℕ) → i < n → Joined i
+          ↔ (s .price + (c .value + suc i * getD vs (c .segment) 0) + t .cost
+          ≤ s .price + (c .cost + i * getD cs (c .segment) 0) + s .supplier + (t .value + s .buyer))
+      joined↔ i l =
+          let q : c .place + suc i ≡ suc (c .place + i) = omega arith in
+          let g : meet s t (c .cost + i * getD cs (c .segment) 0) (c .value + suc i * getD vs (c .segment) 0)
+          ≡ leZ (dealAlong s us cs vs .lower (suc (c .place + i))) (dealAlong s us cs vs .upper (c .place + i)) =
+          rw (cost-on us cs vs c o i (omega arith), value-on us cs vs c o (suc i) (omega arith), q, k .value-is, k .cost-is) in
+          let w = meet↔ (c .cost + i * getD cs (c .segment) 0) (c .value + suc i * getD vs (c .segment) 0) in
+          (λ h. w .0 (g ∙ leZ-true _ _ .1 h), λ h. leZ-true _ _ .0 (sym g ∙ w .1 h))
+
+      -- the first and the last unit decide
+      all-joined : Joined 0 → Joined (n - 1) → (i : ℕ) → i < n → Joined i
+      all-joined p q i l =
+          let v = getD vs (c .segment) 0 in
+          let x = getD cs (c .segment) 0 in
+          let first = joined↔ 0 some .0 p in
+          let last = joined↔ (n - 1) (omega (arith, some)) .0 q in
+          joined↔ i l .1
+          (omega
+          (arith, between (s .price + (c .value + v) + t .cost) (s .price + c .cost + s .supplier + (t .value + s .buyer)) v x i (n - 1 - i) (omega arith) (more i l last)))
         where
-          before : (i : ℕ) → i < n .place → Dec (c .place ≤ i) → dealAlong s us cs vs .lower (suc i) ≤ℤ dealAlong s us cs vs .upper i
-          before i l (yes q) = let g : i ≡ c .place = omega arith in rw g (leZ-true _ _ .0 (sym (f ∙ gap-test) ∙ not-false b h))
-          before i l (no q) = r .no-gap i (omega arith)
+          more : (i : ℕ) → i < n
+              → s .price + (c .value + suc (n - 1) * getD vs (c .segment) 0) + t .cost
+              ≤ s .price + (c .cost + (n - 1) * getD cs (c .segment) 0) + s .supplier + (t .value + s .buyer)
+              → s .price + (c .value + getD vs (c .segment) 0) + t .cost + (i + (n - 1 - i)) * getD vs (c .segment) 0
+              ≤ s .price + c .cost + s .supplier + (t .value + s .buyer) + (i + (n - 1 - i)) * getD cs (c .segment) 0
+          more i l h = let j : i + (n - 1 - i) ≡ n - 1 = omega arith in rw j (omega arith)
+
+      module _ (b : Bool)
+          (f : b ≡ (meet s t (c .cost) (c .value + getD vs (c .segment) 0) && meet s t (to .cost - getD cs (c .segment) 0) (to .value))) where
+        -- the test of both
+        both↔ : (b ≡ true) ↔ (Joined 0 × Joined (n - 1))
+        both↔ =
+            let v = getD vs (c .segment) 0 in
+            let x = getD cs (c .segment) 0 in
+            let first = meet↔ (c .cost) (c .value + v) in
+            let last = meet↔ (to .cost - x) (to .value) in
+            let first′ = joined↔ 0 some in
+            let last′ = joined↔ (n - 1) (omega (arith, some)) in (
+              λ h.
+                  let w = and-eq-true-iff (meet s t (c .cost) (c .value + v)) (meet s t (to .cost - x) (to .value)) .0 (sym f ∙ h) in
+                  (first′ .1 (omega (arith, first .0 (w .0))), last′ .1 (omega (arith, last .0 (w .1), to-cost, to-value, last-unit v, last-unit x))),
+              λ h.
+                  f ∙ rw (first .1 (omega (arith, first′ .0 (h .0))))
+                  (last .1 (omega (arith, last′ .0 (h .1), to-cost, to-value, last-unit v, last-unit x))),
+            )
+
+        pub gap-none : not b ≡ true → Decides (dealAlong s us cs vs) false
+        gap-none h =
+            none
+            (λ p.
+            let here = o .more in
+            let end = place-on us cs vs c o n (omega arith) in
+            subst T (sym (both↔ .1 (p .no-gap (c .place + 0) (omega arith), p .no-gap (c .place + (n - 1)) (omega (arith, some)))) ∙ not-true b h) tt)
+
+        pub clear-next : Clear c → not b ≡ false → Clear to
+        clear-next r h = record { at = m .at; safe = r .safe; no-gap = λ i l. before i l (decLe (c .place) i) }
+          where
+            before : (i : ℕ) → i < to .place → Dec (c .place ≤ i) → dealAlong s us cs vs .lower (suc i) ≤ℤ dealAlong s us cs vs .upper i
+            before i l (yes q) =
+                let g : i ≡ c .place + (i - c .place) = omega arith in
+                let w = both↔ .0 (not-false b h) in
+                rw g (all-joined (w .0) (w .1) (i - c .place) (omega (arith, m .place-is)))
+            before i l (no q) = r .no-gap i (omega arith)
 
     pub clear-all : (c : Cursor) → Clear c → t .units ≤ c .place → Decides (dealAlong s us cs vs) true
     clear-all c r h = all (record { start-safe = r .safe; no-gap = λ i l. r .no-gap i (le-trans l (rw (k .units-are) at h)) })
@@ -146,12 +231,51 @@ module _ (s : Sides) (us cs vs : List ℕ) where
         → not b ≡ false → Reached s us cs vs paid n
     reached-next paid n m b f h = record { at = m; low = leZ-true _ _ .0 (rw (← lower-at n m) (sym f ∙ not-false b h)) }
 
-    pub stops : (paid : ℕ) (c n : Cursor) → Reached s us cs vs paid c → At us cs vs n → n .place ≡ c .place + 1 → (b : Bool)
-        → b ≡ leZ (lowerOf (s .price) (t .value) (n .value) (s .buyer)) (pos paid) → not b ≡ true → Delivered s us cs vs paid c
-    stops paid c n r m e b f h =
-        let q : leZ (dealAlong s us cs vs .lower (suc (c .place))) (pos paid) ≡ false =
-        rw (← add-one (c .place), ← e, ← lower-at n m) (sym f ∙ not-true b h) in
-        record { at = r .at; reached = reach-is paid (c .place) (r .at .within) (r .low) (λ _. q) }
+    -- the lower bound of a place is at most what is paid, as an order of sums
+    pub low-sums : (paid : ℕ) (c : Cursor) → Reached s us cs vs paid c → s .price + c .value ≤ paid + (t .value + s .buyer)
+    low-sums paid c r = low↔ (s .price) (t .value) (c .value) (s .buyer) paid .0 (rw (lower-at c (r .at)) (r .low))
+
+    -- free is the value that may still be delivered
+    module _ (paid : ℕ) (c : Cursor) (o : Open us cs vs c) (free : ℕ) (q : s .price + c .value + free ≡ paid + (t .value + s .buyer)) where
+      -- the n units left of the cursor's segment are too many
+      module _ (whole : Cursor) (n : ℕ) (e : c .used + n ≡ getD us (c .segment) 0) (m : There us cs vs whole (c .place + n)) (b : Bool)
+          (f : b ≡ leZ (lowerOf (s .price) (t .value) (whole .value) (s .buyer)) (pos paid)) (h : not b ≡ true) where
+        too-many : free < n * getD vs (c .segment) 0
+        too-many =
+            dite (decLe (n * getD vs (c .segment) 0) free)
+            (λ l.
+            let low = low↔ (s .price) (t .value) (whole .value) (s .buyer) paid .1 (omega (arith, value-there us cs vs c o n (omega arith) whole m)) in
+            absurd (subst T (sym (f ∙ leZ-true _ _ .1 low) ∙ not-true b h) tt))
+            (λ (l : n * getD vs (c .segment) 0 ≤ free → ⊥). omega arith)
+
+        pub few : n < 2 ^ 16 → free < 2 ^ 16 * getD vs (c .segment) 0
+        few l = omega (arith, too-many, mul-le-mul-right {m = n} {n = 2 ^ 16} (getD vs (c .segment) 0) (omega arith))
+
+        pub fewer : (i : ℕ) → i * getD vs (c .segment) 0 ≤ free → c .used + suc i ≤ getD us (c .segment) 0
+        fewer i l =
+            let g : i < n = lt-of-mul-lt-mul-right (getD vs (c .segment) 0) {m = i} {n = n} (omega (arith, too-many)) in
+            omega arith
+
+      -- i units are not too many, and one more is
+      pub stops : (i : ℕ) → i * getD vs (c .segment) 0 ≤ free → free < (i + 1) * getD vs (c .segment) 0 → c .used + suc i ≤ getD us (c .segment) 0
+          → (to : Cursor) → There us cs vs to (c .place + i) → Delivered s us cs vs paid to
+      stops i few many l to a =
+          let d = dealAlong s us cs vs in
+          let here = value-there us cs vs c o i (omega arith) to a in
+          let next : c .value + suc i * getD vs (c .segment) 0 ≡ sumTo (spread us vs) (suc (to .place)) =
+          let g : suc (to .place) ≡ c .place + suc i = omega (arith, a .place-is) in
+          rw g (value-on us cs vs c o (suc i) l) in
+          let low : d .lower (to .place) ≤ℤ pos paid =
+          rw (← lower-at to (a .at)) (low↔ (s .price) (t .value) (to .value) (s .buyer) paid .1 (omega arith)) in
+          let not : leZ (d .lower (suc (to .place))) (pos paid) ≡ false =
+          not-so _
+          (λ y.
+          let g = low↔ (s .price) (t .value) (sumTo (spread us vs) (suc (to .place))) (s .buyer) paid .0 (rw (k .value-is) (leZ-true _ _ .0 y)) in
+          omega arith) in
+          record { at = a .at; reached = reach-is paid (to .place) (a .at .within) low (λ _. not) }
+
+      pub stops-here : At us cs vs c → free < getD vs (c .segment) 0 → Delivered s us cs vs paid c
+      stops-here a l = stops 0 (omega arith) (omega arith) (omega (arith, a .left (o .more))) c (record { at = a; place-is = omega arith })
 
     pub stops-last : (paid : ℕ) (c : Cursor) → Reached s us cs vs paid c → t .units ≤ c .place → Delivered s us cs vs paid c
     stops-last paid c r h =

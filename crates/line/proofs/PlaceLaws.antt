@@ -12,12 +12,12 @@ use Rattle.exchange.specs.Test.{boundsAt}
 use Rattle.exchange.specs.declared.Bounds.{Bounds}
 use Rattle.line.specs.Segments.{spread, fits, dealAlong}
 use Rattle.line.specs.BoundsPromise.{hasPlace}
-use Rattle.line.specs.Code.{Fit, Known, Sums, At, origin}
-use Rattle.line.specs.CheckCode.{Ahead, There, cursorBounds}
-use Rattle.line.specs.declared.Cursor.{Cursor}
+use Rattle.line.specs.Code.{Fit, Known, Sums, At, Open, There, origin}
+use Rattle.line.specs.CheckCode.{Ahead, cursorBounds}
+use Rattle.line.specs.declared.place.Cursor.{Cursor}
 use Rattle.exchange.specs.declared.Sides.{Sides}
-use Rattle.line.specs.declared.Summed.{Summed}
-use Rattle.line.specs.declared.Totals.{Totals}
+use Rattle.line.specs.declared.sums.Summed.{Summed}
+use Rattle.line.specs.declared.sums.Totals.{Totals}
 use Rattle.line.proofs.SegmentLaws.{at-origin, fits↔, not-so}
 
 -- ---- the answer of the sum
@@ -34,6 +34,9 @@ module _ (us cs vs : List ℕ) {r : Summed} (s : Sums us cs vs r) where
 pub cursor-bounds : (s : Sides) (us cs vs : List ℕ) (t : Totals) → Known us cs vs t → (c : Cursor) → At us cs vs c
     → cursorBounds s t c ≡ boundsAt (dealAlong s us cs vs) (c .place)
 cursor-bounds s us cs vs t k c a = rw (k .value-is, k .cost-is, a .value-is, a .cost-is)
+
+pub ahead-open : (us cs vs : List ℕ) (c : Cursor) (place : ℕ) → Ahead us cs vs c place → c .place < place → Open us cs vs c
+ahead-open us cs vs c place a h = record { fit = a .fit; at = a .at; more = omega (arith, a .within) }
 
 module _ (us cs vs : List ℕ) (place : ℕ) where
   place↔ : (hasPlace us cs vs place ≡ true) ↔ (Fit us cs vs × (place ≤ length (spread us cs)))

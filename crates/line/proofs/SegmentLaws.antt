@@ -1,22 +1,22 @@
--- Laws of segments: sums along them, which segments fit, and one unit on. Assumes nothing.
+-- Laws of segments: sums along them, which segments fit, and units of one segment on. Assumes nothing.
 use mathlib.Core.Path.{_≡_, refl, sym, ap, _∙_}
 use mathlib.Core.Logic.{_↔_}
-use mathlib.Core.Bool.{Bool, true, false, _&&_, and-eq-true-iff}
+use mathlib.Core.Bool.{Bool, true, false, _&&_, and-true, and-false, and-eq-true-iff}
 use mathlib.Core.List.{List, [], _∷_}
-use Prim.Native.Nat.{ℕ, zero, suc, _+_, _*_, _≤_, _<_, _^_, min}
+use Prim.Native.Nat.{ℕ, zero, suc, _+_, _*_, _≤_, _<_, _^_}
 use native.Mathlib.Omega.{arith}
 use native.Mathlib.Decide.{decLe}
 use native.Mathlib.Numerals.{add-one}
-use borrow.Author.Tests.{ltb-true, eqb-true, lt-ltb, eq-eqb}
+use borrow.Author.Tests.{ltb-true, eqb-true, lt-ltb, le-ltb, eq-eqb}
 use lib.Dec.{ltb}
 use lib.ListN.{length, getD, drop, replicate, length-append, length-replicate, getD-replicate, List·getD-append, List·getD-eq-default}
 use lib.Seq.{drop-cons, drop-length, getD-append-add}
 use Rattle.exchange.specs.Forms.{along}
 use Rattle.exchange.proofs.FormLaws.{along-rises}
 use Rattle.line.specs.Segments.{spread, allHave, fits}
-use Rattle.line.specs.Code.{sumTo, Fit, Known, At, origin}
-use Rattle.line.specs.declared.Cursor.{Cursor}
-use Rattle.line.specs.declared.Totals.{Totals}
+use Rattle.line.specs.Code.{sumTo, Fit, Known, At, Open, There, origin}
+use Rattle.line.specs.declared.place.Cursor.{Cursor}
+use Rattle.line.specs.declared.sums.Totals.{Totals}
 
 -- ---- sums
 
@@ -43,7 +43,7 @@ spread-length (u ∷ us) [] e = absurd (omega arith)
 spread-length (u ∷ us) (x ∷ xs) e = simp (length-append, length-replicate) (omega (arith, spread-length us xs (omega arith)))
 
 -- the amount of a unit is that of its segment
-pub spread-at : (us xs : List ℕ) → length xs ≡ length us → (j k : ℕ) → k < getD us j 0 → getD (spread us xs) (sumTo us j + k) 0 ≡ getD xs j 0
+spread-at : (us xs : List ℕ) → length xs ≡ length us → (j k : ℕ) → k < getD us j 0 → getD (spread us xs) (sumTo us j + k) 0 ≡ getD xs j 0
 unfolding spread along
 spread-at [] xs e j k h = absurd (omega arith)
 spread-at (u ∷ us) [] e j k h = absurd (omega arith)
@@ -76,24 +76,38 @@ segment-suc us xs e j = rw (sum-suc us j) (segment-sum us xs e j (getD us j 0) (
 pub first-sum : (us xs : List ℕ) → sumTo (spread us xs) (sumTo us 0) ≡ 0
 first-sum us xs = rw (sum-zero us) (sum-zero (spread us xs))
 
-pub segments-up : (us xs : List ℕ) (i j : ℕ) → i ≤ j → sumTo (spread us xs) (sumTo us i) ≤ sumTo (spread us xs) (sumTo us j)
-segments-up us xs i j h = sum-up (spread us xs) (sumTo us i) (sumTo us j) (sum-up us i j h)
-
 -- ---- segments that have units
 
-pub have-at : (us : List ℕ) (i : ℕ) → i < length us → allHave (drop i us) ≡ (ltb 0 (getD us i 0) && allHave (drop (suc i) us))
-unfolding allHave
-have-at us i h = rw (drop-cons us i 0 h)
+module _ (us : List ℕ) (b : Bool) where
+  -- b tells whether those before segment i have a unit
+  module _ (i : ℕ) (h : i < length us) (e : allHave us ≡ (b && allHave (drop i us))) where
+    have-at : allHave us ≡ (b && (ltb 0 (getD us i 0) && allHave (drop (suc i) us)))
+    unfolding allHave
+    have-at = e ∙ rw (drop-cons us i 0 h)
 
-pub have-none : (us : List ℕ) → true ≡ allHave (drop (length us) us)
-unfolding allHave
-have-none us = rw (drop-length us)
+    pub have-fails : getD us i 0 ≡ 0 → allHave us ≡ (false && allHave (drop (suc i) us))
+    have-fails z = have-at ∙ rw (le-ltb 0 (getD us i 0) (omega arith)) (and-false b)
+
+    pub have-goes-on : (getD us i 0 ≡ 0 → ⊥) → allHave us ≡ (b && allHave (drop (suc i) us))
+    have-goes-on z = have-at ∙ rw (lt-ltb 0 (getD us i 0) (omega arith))
+
+  pub have-all : allHave us ≡ (b && allHave (drop (length us) us)) → b ≡ allHave us
+  unfolding allHave
+  have-all e = sym (e ∙ rw (drop-length us) (and-true b))
 
 have-each : (us : List ℕ) → allHave us ≡ true → (j : ℕ) → j < length us → 0 < getD us j 0
 unfolding allHave
 have-each [] e j h = absurd (omega arith)
 have-each (u ∷ us) e zero h = ltb-true 0 u (and-eq-true-iff (ltb 0 u) (allHave us) .0 e .0)
 have-each (u ∷ us) e (suc j) h = have-each us (and-eq-true-iff (ltb 0 u) (allHave us) .0 e .1) j (omega arith)
+
+-- there are no more segments than units
+pub segments-few : (us : List ℕ) → allHave us ≡ true → length us ≤ sumTo us (length us)
+unfolding allHave along
+segments-few [] e = omega arith
+segments-few (u ∷ us) e =
+    let h = and-eq-true-iff (ltb 0 u) (allHave us) .0 e in
+    omega (arith, ltb-true 0 u (h .0), segments-few us (h .1))
 
 -- ---- segments that fit
 
@@ -141,13 +155,13 @@ unfit us cs vs n = not-so (fits us cs vs) (λ e. n (fits↔ us cs vs .0 e))
 
 -- the totals, where every test is passed
 pub known : (us cs vs : List ℕ) (t : Totals) → length cs ≡ length us → length vs ≡ length us → allHave us ≡ true
-    → t .units ≡ min (sumTo us (length us)) (2 ^ 16) → t .units < 2 ^ 16
-    → t .cost ≡ min (sumTo (spread us cs) (length (spread us cs))) (2 ^ 32) → t .cost < 2 ^ 32
-    → t .value ≡ min (sumTo (spread us vs) (length (spread us vs))) (2 ^ 32) → t .value < 2 ^ 32 → Known us cs vs t
+    → t .units ≡ sumTo us (length us) → t .units < 2 ^ 16
+    → t .cost ≡ sumTo (spread us cs) (length (spread us cs)) → t .cost < 2 ^ 32
+    → t .value ≡ sumTo (spread us vs) (length (spread us vs)) → t .value < 2 ^ 32 → Known us cs vs t
 known us cs vs t lc lv have n nf x xf y yf =
     let l = spread-length us cs lc in
-    let s = same-spread us cs vs lc lv in
-    let e : sumTo (spread us vs) (length (spread us vs)) ≡ sumTo (spread us vs) (length (spread us cs)) = ap (sumTo (spread us vs)) s in
+    let e : sumTo (spread us vs) (length (spread us vs)) ≡ sumTo (spread us vs) (length (spread us cs)) =
+    ap (sumTo (spread us vs)) (same-spread us cs vs lc lv) in
     record {
       fit = record { costs = lc; values = lv; have = have; units-fit = omega arith; cost-fits = omega arith; value-fits = omega arith };
       units-are = omega arith;
@@ -171,76 +185,103 @@ at-origin us cs vs f =
     more h (yes k) = absurd (omega (arith, spread-length us cs (f .costs), sum-up us (length us) 0 k, sum-zero us))
     more h (no k) = omega arith
 
-module _ (us cs vs : List ℕ) (c : Cursor) (f : Fit us cs vs) (a : At us cs vs c) (h : c .place < length (spread us cs)) where
-  -- the unit after the cursor
-  pub record Unit : Type 0 where
-    pub in-units : c .segment < length us
-    pub cost-next : c .cost + getD cs (c .segment) 0 ≡ sumTo (spread us cs) (suc (c .place))
-    pub value-next : c .value + getD vs (c .segment) 0 ≡ sumTo (spread us vs) (suc (c .place))
-    pub cost-fits : c .cost + getD cs (c .segment) 0 < 2 ^ 32
-    pub value-fits : c .value + getD vs (c .segment) 0 < 2 ^ 32
+pub opened : (us cs vs : List ℕ) (t : Totals) → Known us cs vs t → (c : Cursor) → At us cs vs c → c .place < t .units → Open us cs vs c
+opened us cs vs t k c a h = record { fit = k .fit; at = a; more = omega (arith, k .units-are) }
 
-  pub unit : Unit
-  unit =
-      let l = a .left h in
-      let i : c .segment < length us = inside (decLe (length us) (c .segment)) l in
-      let x : getD (spread us cs) (c .place) 0 ≡ getD cs (c .segment) 0 = rw (a .place-is) (spread-at us cs (f .costs) (c .segment) (c .used) l) in
-      let y : getD (spread us vs) (c .place) 0 ≡ getD vs (c .segment) 0 = rw (a .place-is) (spread-at us vs (f .values) (c .segment) (c .used) l) in
-      let p : c .cost + getD cs (c .segment) 0 ≡ sumTo (spread us cs) (suc (c .place)) = omega (arith, sum-suc (spread us cs) (c .place), a .cost-is) in
-      let q : c .value + getD vs (c .segment) 0 ≡ sumTo (spread us vs) (suc (c .place)) = omega (arith, sum-suc (spread us vs) (c .place), a .value-is) in
-      record {
-        in-units = i;
-        cost-next = p;
-        value-next = q;
-        cost-fits = omega (arith, sum-up (spread us cs) (suc (c .place)) (length (spread us cs)) h, f .cost-fits);
-        value-fits = omega (arith, sum-up (spread us vs) (suc (c .place)) (length (spread us cs)) h, f .value-fits);
-      }
+module _ (us cs vs : List ℕ) (c : Cursor) (o : Open us cs vs c) where
+  pub in-units : c .segment < length us
+  in-units = inside (decLe (length us) (c .segment)) (o .at .left (o .more))
     where
       inside : Dec (length us ≤ c .segment) → c .used < getD us (c .segment) 0 → c .segment < length us
       inside (yes k) l = let e : getD us (c .segment) 0 ≡ 0 = List·getD-eq-default us 0 {n = c .segment} k in absurd (omega arith)
       inside (no k) l = omega arith
 
-  -- the cursor after it, in the same segment
-  pub same-segment : c .used + 1 < getD us (c .segment) 0
-      → At us cs vs
-      (record {
-        place = c .place + 1;
-        segment = c .segment;
-        used = c .used + 1;
-        cost = c .cost + getD cs (c .segment) 0;
-        value = c .value + getD vs (c .segment) 0;
-      })
-  same-segment k =
-      record {
-        place-is = omega (arith, a .place-is);
-        within = omega arith;
-        left = λ _. k;
-        cost-is = rw add-one (unit .cost-next);
-        value-is = rw add-one (unit .value-next);
-      }
+  pub few-before : c .segment < 2 ^ 16
+  few-before = omega (arith, in-units, segments-few us (o .fit .have), spread-length us cs (o .fit .costs), o .fit .units-fit)
 
-  -- the cursor after it, in the next segment
-  pub next-segment : getD us (c .segment) 0 ≤ c .used + 1
-      → At us cs vs
-      (record {
-        place = c .place + 1;
-        segment = c .segment + 1;
-        used = 0;
-        cost = c .cost + getD cs (c .segment) 0;
-        value = c .value + getD vs (c .segment) 0;
-      })
-  next-segment k =
-      let l = a .left h in
-      let e : c .place + 1 ≡ sumTo us (suc (c .segment)) = omega (arith, a .place-is, sum-suc us (c .segment)) in
-      let q = unit .in-units in
-      record {
-        place-is = rw (add-one (c .segment)) (omega arith);
-        within = omega arith;
-        left = λ m. rw (add-one (c .segment)) (have-each us (f .have) (suc (c .segment)) (more (decLe (length us) (suc (c .segment))) e m));
-        cost-is = rw (add-one (c .place)) (unit .cost-next);
-        value-is = rw (add-one (c .place)) (unit .value-next);
-      }
-    where
-      more : Dec (length us ≤ suc (c .segment)) → c .place + 1 ≡ sumTo us (suc (c .segment)) → c .place + 1 < length (spread us cs) → suc (c .segment) < length us
-      more (yes k) e m = absurd (omega (arith, spread-length us cs (f .costs), sum-up us (length us) (suc (c .segment)) k))
-      more (no k) e m = omega arith
+  -- k units of the cursor's segment on
+  module _ (k : ℕ) (h : c .used + k ≤ getD us (c .segment) 0) where
+    pub place-on : c .place + k ≤ length (spread us cs)
+    place-on =
+        omega (arith, o .at .place-is, sum-suc us (c .segment), sum-up us (suc (c .segment)) (length us) in-units, spread-length us cs (o .fit .costs))
+
+    amount-on : (xs : List ℕ) → length xs ≡ length us
+        → sumTo (spread us xs) (c .place) + k * getD xs (c .segment) 0 ≡ sumTo (spread us xs) (c .place + k)
+    amount-on xs e =
+        let p : c .place + k ≡ sumTo us (c .segment) + (c .used + k) = omega (arith, o .at .place-is) in
+        rw (p, o .at .place-is)
+        (omega (arith, segment-sum us xs e (c .segment) (c .used) (omega arith), segment-sum us xs e (c .segment) (c .used + k) h))
+
+    pub cost-on : c .cost + k * getD cs (c .segment) 0 ≡ sumTo (spread us cs) (c .place + k)
+    cost-on = rw (o .at .cost-is) (amount-on cs (o .fit .costs))
+
+    pub value-on : c .value + k * getD vs (c .segment) 0 ≡ sumTo (spread us vs) (c .place + k)
+    value-on = rw (o .at .value-is) (amount-on vs (o .fit .values))
+
+    pub cost-fits : c .cost + k * getD cs (c .segment) 0 < 2 ^ 32
+    cost-fits = omega (arith, cost-on, sum-up (spread us cs) (c .place + k) (length (spread us cs)) place-on, o .fit .cost-fits)
+
+    pub value-fits : c .value + k * getD vs (c .segment) 0 < 2 ^ 32
+    value-fits = omega (arith, value-on, sum-up (spread us vs) (c .place + k) (length (spread us cs)) place-on, o .fit .value-fits)
+
+    -- the cost and the value of the cursor there
+    module _ (to : Cursor) (m : There us cs vs to (c .place + k)) where
+      pub cost-there : to .cost ≡ c .cost + k * getD cs (c .segment) 0
+      cost-there = m .at .cost-is ∙ ap (sumTo (spread us cs)) (m .place-is) ∙ sym cost-on
+
+      pub value-there : to .value ≡ c .value + k * getD vs (c .segment) 0
+      value-there = m .at .value-is ∙ ap (sumTo (spread us vs)) (m .place-is) ∙ sym value-on
+
+    -- the cursor there, in the same segment
+    pub same-segment : c .used + k < getD us (c .segment) 0
+        → There us cs vs
+        (record {
+          place = c .place + k;
+          segment = c .segment;
+          used = c .used + k;
+          cost = c .cost + k * getD cs (c .segment) 0;
+          value = c .value + k * getD vs (c .segment) 0;
+        })
+        (c .place + k)
+    same-segment l =
+        record {
+          at =
+              record {
+                place-is = omega (arith, o .at .place-is);
+                within = place-on;
+                left = λ _. l;
+                cost-is = cost-on;
+                value-is = value-on;
+              };
+          place-is = refl;
+        }
+
+    -- the cursor there, in the next segment
+    pub next-segment : getD us (c .segment) 0 ≤ c .used + k
+        → There us cs vs
+        (record {
+          place = c .place + k;
+          segment = c .segment + 1;
+          used = 0;
+          cost = c .cost + k * getD cs (c .segment) 0;
+          value = c .value + k * getD vs (c .segment) 0;
+        })
+        (c .place + k)
+    next-segment l =
+        let e : c .place + k ≡ sumTo us (suc (c .segment)) = omega (arith, o .at .place-is, sum-suc us (c .segment)) in
+        record {
+          at =
+              record {
+                place-is = rw (add-one (c .segment)) (omega arith);
+                within = place-on;
+                left = λ m. rw (add-one (c .segment)) (have-each us (o .fit .have) (suc (c .segment)) (more (decLe (length us) (suc (c .segment))) e m));
+                cost-is = cost-on;
+                value-is = value-on;
+              };
+          place-is = refl;
+        }
+      where
+        more : Dec (length us ≤ suc (c .segment)) → c .place + k ≡ sumTo us (suc (c .segment)) → c .place + k < length (spread us cs)
+            → suc (c .segment) < length us
+        more (yes q) e m = absurd (omega (arith, spread-length us cs (o .fit .costs), sum-up us (length us) (suc (c .segment)) q))
+        more (no q) e m = omega arith

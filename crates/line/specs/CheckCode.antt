@@ -10,9 +10,9 @@ use Rattle.exchange.specs.Deal.{Deal, State, Plan}
 use Rattle.exchange.specs.declared.Bounds.{Bounds}
 use Rattle.line.specs.Segments.{spread}
 use Rattle.line.specs.Code.{Fit, Known, At}
-use Rattle.line.specs.declared.Cursor.{Cursor}
+use Rattle.line.specs.declared.place.Cursor.{Cursor}
 use Rattle.exchange.specs.declared.Sides.{Sides}
-use Rattle.line.specs.declared.Totals.{Totals}
+use Rattle.line.specs.declared.sums.Totals.{Totals}
 
 -- the place lies ahead of the cursor, or is the cursor's own
 pub record Ahead (us cs vs : List ℕ) (c : Cursor) (place : ℕ) : Type 0 where
@@ -20,11 +20,6 @@ pub record Ahead (us cs vs : List ℕ) (c : Cursor) (place : ℕ) : Type 0 where
   pub at : At us cs vs c
   pub from : c .place ≤ place
   pub within : place ≤ length (spread us cs)
-
--- the cursor stands at the place
-pub record There (us cs vs : List ℕ) (c : Cursor) (place : ℕ) : Type 0 where
-  pub at : At us cs vs c
-  pub place-is : c .place ≡ place
 
 -- the bounds of the cursor's place, by the totals
 abbrev pub cursorBounds : Sides → Totals → Cursor → Bounds

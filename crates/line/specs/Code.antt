@@ -5,7 +5,7 @@ use mathlib.Core.List.{List, map, _++_}
 use Prim.Native.Nat.{ℕ, _+_, _*_, _≤_, _<_, _^_}
 use lib.IntN.{pos}
 use lib.ListN.{length, getD, drop}
-use lib.Signed.{_≤ℤ_}
+use lib.Signed.{leZ, _≤ℤ_}
 use Rattle.area.specs.Entries.{entries, remainder}
 use Rattle.exchange.specs.Bounds.{upperOf, lowerOf}
 use Rattle.exchange.specs.Deal.{Deal, State, Plan, start, ends}
@@ -15,9 +15,9 @@ use Rattle.exchange.specs.Possible.{Possible}
 use Rattle.exchange.specs.declared.Bounds.{Bounds}
 use Rattle.exchange.specs.declared.Sides.{Sides}
 use Rattle.line.specs.Segments.{spread, fits, allHave, dealAlong}
-use Rattle.line.specs.declared.Cursor.{Cursor}
-use Rattle.line.specs.declared.Summed.{Summed}
-use Rattle.line.specs.declared.Totals.{Totals}
+use Rattle.line.specs.declared.place.Cursor.{Cursor}
+use Rattle.line.specs.declared.sums.Summed.{Summed}
+use Rattle.line.specs.declared.sums.Totals.{Totals}
 
 -- the sum of the first k numbers
 abbrev pub sumTo : List ℕ → ℕ → ℕ
@@ -52,9 +52,24 @@ pub record At (us cs vs : List ℕ) (c : Cursor) : Type 0 where
   pub cost-is : c .cost ≡ sumTo (spread us cs) (c .place)
   pub value-is : c .value ≡ sumTo (spread us vs) (c .place)
 
+-- units are left where the cursor stands
+pub record Open (us cs vs : List ℕ) (c : Cursor) : Type 0 where
+  pub fit : Fit us cs vs
+  pub at : At us cs vs c
+  pub more : c .place < length (spread us cs)
+
+-- the cursor stands at the place
+pub record There (us cs vs : List ℕ) (c : Cursor) (place : ℕ) : Type 0 where
+  pub at : At us cs vs c
+  pub place-is : c .place ≡ place
+
 -- the cursor where nothing is delivered
 abbrev pub origin : Cursor
 origin = record { place = 0; segment = 0; used = 0; cost = 0; value = 0 }
+
+-- whether the lower bound of a place with this value is at most the upper bound of one with this cost, by the totals
+abbrev pub meet : Sides → Totals → ℕ → ℕ → Bool
+meet s t cost value = leZ (lowerOf (s .price) (t .value) value (s .buyer)) (upperOf (s .price) (t .cost) cost (s .supplier))
 
 -- the cursor's place has a lower bound of at most what is paid
 pub record Reached (s : Sides) (us cs vs : List ℕ) (paid : ℕ) (c : Cursor) : Type 0 where

@@ -1,25 +1,36 @@
 // Follows a brought plan along the segments.
 ghost use mathlib.Core.Path.{_≡_};
 ghost use mathlib.Core.Bool.{true};
+ghost use Prim.Native.Nat.{_≤_};
 ghost use Rattle.exchange.specs.PlanIn.{planIn};
 ghost use Rattle.exchange.specs.Test.{stepTest};
 ghost use Rattle.line.specs.Segments.{dealAlong};
 ghost use Rattle.line.specs.CheckCode.{Brought, Judges, cursorBounds};
-use super::Cursor;
-use super::Totals;
+use super::affords;
 use super::arrived;
-use super::first;
+use super::place::Cursor;
 use super::place::advance;
-use super::place::bounds_at;
+use super::place::first;
+use super::reaches;
+use super::sums::Totals;
 use exchange::Sides;
 
-// Whether it is a step from one cursor with p paid on to another with q paid: all four states are safe.
+// Whether it is a step from one cursor with p paid on to a later one with q paid: all four states are safe.
+// Both bounds rise on the way, so the lower bound of the later and the upper bound of the earlier decide.
 fn is_step(sides: Sides, t: Totals, from: Cursor, to: Cursor, p: u32, q: u32) -> bool
+    requires { ⌜ (from .cost ≤ to .cost) × (from .value ≤ to .value) ⌝ }
     ensures { λ r. ⌜ r ≡ stepTest true (cursorBounds sides t from) (cursorBounds sides t to) p q (sides .price) ⌝ }
 {
-    let a = bounds_at(sides, t, from);
-    let b = bounds_at(sides, t, to);
-    exchange::step(true, a, b, p, q, sides.price)
+    if q < p {
+        return false;
+    }
+    if sides.price < q {
+        return false;
+    }
+    if !reaches(sides, t, to.value, p) {
+        return false;
+    }
+    affords(sides, t, from.cost, q)
 }
 
 // Whether the first entries of the areas are steps from the start to the end.

@@ -1,165 +1,36 @@
 // Plans a deal along one order, given as segments: runs of units with one cost and one value.
 ghost use mathlib.Core.Path.{_≡_};
 ghost use mathlib.Core.Bool.{_&&_};
-ghost use Prim.Native.Nat.{_+_, _*_, min, _<_, _^_};
+ghost use Prim.Native.Nat.{_+_, _*_, _-_, min, _≤_, _<_, _^_};
 ghost use lib.Dec.{eqb};
 ghost use lib.IntN.{pos};
-ghost use lib.ListN.{length};
 ghost use lib.Signed.{leZ};
 ghost use Rattle.exchange.specs.Arrival.{Arrives};
 ghost use Rattle.exchange.specs.Bounds.{upperOf, lowerOf};
 ghost use Rattle.exchange.specs.Deal.{start};
 ghost use Rattle.exchange.specs.Rule.{coins};
 ghost use Rattle.exchange.specs.Test.{safeTest};
-ghost use Rattle.line.specs.Segments.{spread, allHave, dealAlong};
+ghost use Rattle.line.specs.Segments.{dealAlong};
 ghost use Rattle.line.specs.Promise.{Plans, Success};
-ghost use Rattle.line.specs.Code.{sumTo, Sums, Fit, Known, At, Reached, Delivered, Decides, Ready, Written, startBounds, origin};
+ghost use Rattle.line.specs.BoundsPromise.{BoundsOf};
+ghost use Rattle.line.specs.CheckPromise.{Checks};
+ghost use Rattle.line.specs.Code.{Known, Reached, Delivered, Decides, Ready, Written, startBounds, meet};
+
+mod follow;
+mod place;
+mod sums;
+
 use exchange::Planned;
 use exchange::Sides;
-
-// All units, and their cost and value together.
-struct Totals {
-    units: usize,
-    cost: u32,
-    value: u32,
-}
-
-// A place along the segments: the segment of its next unit, how many units of that are delivered, and the cost and value so far.
-struct Cursor {
-    place: usize,
-    segment: usize,
-    used: u16,
-    cost: u32,
-    value: u32,
-}
-
-// The totals of segments that fit.
-enum Summed {
-    Fits(Totals),
-    Unfit,
-}
-
-// Whether every segment has a unit.
-fn have_units(units: &[u16]) -> bool
-    ensures { λ r. ⌜ r ≡ allHave (now (units .entry)) ⌝ }
-{
-    let mut i = 0;
-    while i < units.len() {
-        if units[i] == 0 {
-            return false;
-        }
-        i += 1;
-    }
-    true
-}
-
-// A number of units in 32 bits.
-fn wide(u: u16) -> u32
-    ensures { λ r. ⌜ (r ≡ u) × (r < 2 ^ 16) ⌝ }
-{
-    u as u32
-}
-
-// All units; 65,536 stands for more than fit.
-fn count(units: &[u16]) -> u32
-    ensures { λ r. ⌜ r ≡ min (sumTo (now (units .entry)) (length (now (units .entry)))) (2 ^ 16) ⌝ }
-{
-    let mut n = 0;
-    let mut i = 0;
-    while i < units.len() {
-        n += wide(units[i]);
-        if 65535 < n {
-            return 65536;
-        }
-        i += 1;
-    }
-    n
-}
-
-// A sum with u amounts more.
-fn raised(sum: u64, u: u16, amount: u32) -> u64
-    requires { ⌜ sum < 2 ^ 32 ⌝ }
-    ensures { λ r. ⌜ r ≡ sum + u * amount ⌝ }
-{
-    sum + u as u64 * amount as u64
-}
-
-// An amount over all units; 2 ^ 32 stands for more than fit.
-fn total(units: &[u16], amounts: &[u32]) -> u64
-    requires { ⌜ length (now amounts) ≡ length (now units) ⌝ }
-    ensures { λ r. ⌜ r ≡ min (sumTo (spread (now (units .entry)) (now (amounts .entry))) (length (spread (now (units .entry)) (now (amounts .entry))))) (2 ^ 32) ⌝ }
-{
-    let mut sum = 0;
-    let mut i = 0;
-    while i < units.len() {
-        sum = raised(sum, units[i], amounts[i]);
-        if 4294967295 < sum {
-            return 4294967296;
-        }
-        i += 1;
-    }
-    sum
-}
-
-// The totals, if the segments fit.
-fn add_up(units: &[u16], costs: &[u32], values: &[u32]) -> Summed
-    ensures { λ r. ⌜ Sums (now (units .entry)) (now (costs .entry)) (now (values .entry)) r ⌝ }
-{
-    if costs.len() != units.len() {
-        return Summed::Unfit;
-    }
-    if values.len() != units.len() {
-        return Summed::Unfit;
-    }
-    if !have_units(units) {
-        return Summed::Unfit;
-    }
-    let n = count(units);
-    if 65535 < n {
-        return Summed::Unfit;
-    }
-    let cost = total(units, costs);
-    if 4294967295 < cost {
-        return Summed::Unfit;
-    }
-    let value = total(units, values);
-    if 4294967295 < value {
-        return Summed::Unfit;
-    }
-    Summed::Fits(Totals {
-        units: n as usize,
-        cost: cost as u32,
-        value: value as u32,
-    })
-}
-
-// One unit on.
-fn next(units: &[u16], costs: &[u32], values: &[u32], c: Cursor) -> Cursor
-    requires { ⌜ Fit (now units) (now costs) (now values) × At (now units) (now costs) (now values) c × (c .place < length (spread (now units) (now costs))) ⌝ }
-    ensures { λ r. ⌜ At (now (units .entry)) (now (costs .entry)) (now (values .entry)) r × (r .place ≡ c .place + 1) ⌝ }
-{
-    let segment = c.segment;
-    let cost = c.cost + costs[segment];
-    let value = c.value + values[segment];
-    let place = c.place + 1;
-    let used = c.used + 1;
-    if used < units[segment] {
-        return Cursor {
-            place,
-            segment,
-            used,
-            cost,
-            value,
-        };
-    }
-    Cursor {
-        place,
-        segment: segment + 1,
-        used: 0,
-        cost,
-        value,
-    }
-}
+use place::Cursor;
+use place::advance;
+use place::bounds_at;
+use place::first;
+use place::leap;
+use place::left;
+use sums::Summed;
+use sums::Totals;
+use sums::add_up;
 
 // What is paid at a place: the smaller of its upper bound and the price.
 fn pay(sides: Sides, t: Totals, cost: u32) -> u32
@@ -182,9 +53,16 @@ fn reaches(sides: Sides, t: Totals, value: u32, paid: u32) -> bool
     exchange::lower(sides.price, t.value, value, sides.buyer) <= paid as i64
 }
 
+// Whether what is paid is at most a place's upper bound.
+fn affords(sides: Sides, t: Totals, cost: u32, paid: u32) -> bool
+    ensures { λ r. ⌜ r ≡ leZ (pos paid) (upperOf (sides .price) (t .cost) cost (sides .supplier)) ⌝ }
+{
+    paid as i64 <= exchange::upper(sides.price, t.cost, cost, sides.supplier)
+}
+
 // Whether the lower bound of a place with this value is at most the upper bound of one with this cost.
 fn meets(sides: Sides, t: Totals, cost: u32, value: u32) -> bool
-    ensures { λ r. ⌜ r ≡ leZ (lowerOf (sides .price) (t .value) value (sides .buyer)) (upperOf (sides .price) (t .cost) cost (sides .supplier)) ⌝ }
+    ensures { λ r. ⌜ r ≡ meet sides t cost value ⌝ }
 {
     let lo = exchange::lower(sides.price, t.value, value, sides.buyer);
     let hi = exchange::upper(sides.price, t.cost, cost, sides.supplier);
@@ -207,20 +85,19 @@ fn arrived(place: usize, paid: u32, last: usize, price: u32) -> bool
     place == last && paid == price
 }
 
-// Nothing delivered.
-fn first() -> Cursor
-    ensures { λ r. ⌜ r ≡ origin ⌝ }
+// Whether no gap lies before the first nor before the last unit of a segment with this cost and value, from its open units c to its end.
+fn joins(sides: Sides, t: Totals, c: Cursor, to: Cursor, cost: u32, value: u32) -> bool
+    requires { ⌜ (c .value + value < 2 ^ 32) × (cost ≤ to .cost) ⌝ }
+    ensures { λ r. ⌜ r ≡ (meet sides t (c .cost) (c .value + value) && meet sides t (to .cost - cost) (to .value)) ⌝ }
 {
-    Cursor {
-        place: 0,
-        segment: 0,
-        used: 0,
-        cost: 0,
-        value: 0,
+    if !meets(sides, t, c.cost, c.value + value) {
+        return false;
     }
+    meets(sides, t, to.cost - cost, to.value)
 }
 
 // Whether a plan exists: the start is safe, and the lower bound of each place is at most the upper bound of the place before it.
+// Along a segment both rise by constants, so its first and its last unit decide.
 fn possible(sides: Sides, t: Totals, units: &[u16], costs: &[u32], values: &[u32]) -> bool
     requires { ⌜ Known (now units) (now costs) (now values) t ⌝ }
     ensures { λ r. ⌜ Decides (dealAlong sides (now (units .entry)) (now (costs .entry)) (now (values .entry))) r ⌝ }
@@ -230,16 +107,33 @@ fn possible(sides: Sides, t: Totals, units: &[u16], costs: &[u32], values: &[u32
     }
     let mut c = first();
     while c.place < t.units {
-        let n = next(units, costs, values, c);
-        if !meets(sides, t, c.cost, n.value) {
+        let segment = c.segment;
+        let to = leap(units, costs, values, c, left(units, c));
+        if !joins(sides, t, c, to, costs[segment], values[segment]) {
             return false;
         }
-        c = n;
+        c = to;
     }
     true
 }
 
-// On to the greatest place whose lower bound is at most what is paid.
+// How much more value may be delivered before the lower bound is above what is paid.
+fn slack(sides: Sides, t: Totals, value: u32, paid: u32) -> u64
+    requires { ⌜ sides .price + value ≤ paid + (t .value + sides .buyer) ⌝ }
+    ensures { λ r. ⌜ sides .price + value + r ≡ paid + (t .value + sides .buyer) ⌝ }
+{
+    paid as u64 + (t.value as u64 + sides.buyer as u64) - (sides.price as u64 + value as u64)
+}
+
+// How many units of one value make no more than an amount.
+fn units_in(amount: u64, value: u32) -> u16
+    requires { ⌜ amount < 2 ^ 16 * value ⌝ }
+    ensures { λ r. ⌜ (r * value ≤ amount) × (amount < (r + 1) * value) ⌝ }
+{
+    (amount / value as u64) as u16
+}
+
+// On to the greatest place whose lower bound is at most what is paid. Mostly the next unit is too much already, which needs no division.
 fn deliver(
     sides: Sides,
     t: Totals,
@@ -254,11 +148,17 @@ fn deliver(
 {
     let mut c = from;
     while c.place < t.units {
-        let n = next(units, costs, values, c);
-        if !reaches(sides, t, n.value, paid) {
+        let segment = c.segment;
+        let value = values[segment];
+        let free = slack(sides, t, c.value, paid);
+        if free < value as u64 {
             return c;
         }
-        c = n;
+        let whole = leap(units, costs, values, c, left(units, c));
+        if !reaches(sides, t, whole.value, paid) {
+            return leap(units, costs, values, c, units_in(free, value));
+        }
+        c = whole;
     }
     c
 }
@@ -341,12 +241,6 @@ pub fn plan(
     Planned::Steps(n)
 }
 
-ghost use Rattle.line.specs.BoundsPromise.{BoundsOf};
-ghost use Rattle.line.specs.CheckPromise.{Checks};
-
-mod follow;
-mod place;
-
 pub enum Bounded {
     Between(exchange::Bounds),
     // The segments do not fit, or the place is above all units.
@@ -370,8 +264,8 @@ pub fn bounds(sides: Sides, units: &[u16], costs: &[u32], values: &[u32], place:
     if t.units < place {
         return Bounded::Unfit;
     }
-    let c = place::advance(units, costs, values, first(), place);
-    Bounded::Between(place::bounds_at(sides, t, c))
+    let c = advance(units, costs, values, first(), place);
+    Bounded::Between(bounds_at(sides, t, c))
 }
 
 // Whether the first entries of two byte areas, places and paid totals, are a plan along the segments.

@@ -97,11 +97,6 @@ pub few-segments : (p : Bool) (n : ℕ) → n ≤ most p → n ≤ 1000
 few-segments false n h = h
 few-segments true n h = omega arith
 
--- the index after a cost, and after a value, lies within the record
-pub skip-le : (p : Bool) → skip p ≤ 1
-skip-le false = omega arith
-skip-le true = omega arith
-
 -- the header of a contract of segments
 pub segment-header : (p : Bool) (s : List ℕ) (h : Head) (n i : ℕ) → h .form ≡ segmentForm p
     → acceptance h n (paddedUnits p s i n) ≡ record { reply = Reply.Accepted; header = headerOf (segmentContract p s h n i) }

@@ -1,6 +1,6 @@
 -- Laws of the writer's tests, item by item and amount by amount. Assumes nothing.
 use mathlib.Core.Path.{_≡_, refl, _∙_}
-use mathlib.Core.Bool.{Bool, true, false, _&&_, and-false}
+use mathlib.Core.Bool.{Bool, true, false, _&&_, and-false, and-assoc}
 use mathlib.Core.List.{List, [], _∷_}
 use Prim.Native.Nat.{ℕ, zero, suc, _+_, _*_, _^_, _≤_, _<_}
 use native.Mathlib.Nat.{le-mul-of-pos-right, mul-comm, mul-le-mul-right}
@@ -41,6 +41,10 @@ module _ (us : List ℕ) (i : ℕ) (h : i < length us) where
   within-cons : allWithin (drop i us) ≡ (leb (getD us i 0) limit && allWithin (drop (i + 1) us))
   unfolding allWithin
   within-cons = rw (add-one, drop-cons us i 0 h)
+
+  -- with the amounts before i within the limit or not
+  pub within-both : (b : Bool) {c : Bool} → c ≡ (b && leb (getD us i 0) limit) → (c && allWithin (drop (i + 1) us)) ≡ (b && allWithin (drop i us))
+  within-both b e = rw (e, within-cons) (and-assoc b (leb (getD us i 0) limit) (allWithin (drop (i + 1) us)))
 
   pub within-over : limit < getD us i 0 → allWithin (drop i us) ≡ false
   within-over l = within-cons ∙ rw (lt-leb (getD us i 0) limit l)

@@ -1,5 +1,8 @@
 // Single fields of a record, each with its refusals.
-ghost use Prim.Native.Nat.{_≤_};
+ghost use mathlib.Core.Path.{_≡_};
+ghost use Prim.Native.Nat.{_+_, _≤_};
+ghost use lib.ListN.{length};
+ghost use Rattle.area.specs.Entries.{num};
 ghost use Rattle.contract.specs.Contract.{limit};
 ghost use Rattle.contract.specs.Field.{money, amount};
 ghost use Rattle.record.specs.View.Field.{FieldRead, InRange, Money, Adds};
@@ -34,6 +37,15 @@ pub(crate) fn half(s: &[u8], at: usize) -> Field
     Field::Got(area::num_u16(s, at) as u64, at + 2)
 }
 
+// The 32-bit number at index i, which lies within the record.
+pub(crate) fn number(s: &[u8], i: usize) -> u32
+    requires { ⌜ i + 4 ≤ length (now s) ⌝ }
+    ensures { λ r. ⌜ r ≡ num 4 (now (s .entry)) i ⌝ }
+{
+    let e = i + 4;
+    area::num_u32(&s[i..e], 0)
+}
+
 fn word(s: &[u8], at: usize) -> Field
     ensures { λ r. ⌜ FieldRead 4 (now (s .entry)) at r ⌝ }
 {
@@ -43,7 +55,7 @@ fn word(s: &[u8], at: usize) -> Field
     if s.len() - 4 < at {
         return Field::Refused(Refusal::Truncated);
     }
-    Field::Got(area::num_u32(s, at) as u64, at + 4)
+    Field::Got(number(s, at) as u64, at + 4)
 }
 
 // A field that was read, held to 1 .. most.

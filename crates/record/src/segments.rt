@@ -1,6 +1,6 @@
 // A ladder's units and items with unit prices: segments, each a run of units with one cost and one value.
 ghost use mathlib.Core.Path.{_≡_};
-ghost use mathlib.Core.Bool.{true};
+ghost use mathlib.Core.Bool.{true, false};
 ghost use mathlib.Core.List.{_++_};
 ghost use Prim.Native.Nat.{_+_, _*_, _≤_};
 ghost use lib.ListN.{length, drop};
@@ -9,16 +9,18 @@ ghost use Rattle.contract.specs.Segments.{costValue, segment, segments, segment
 ghost use Rattle.contract.specs.Parse.{sized};
 ghost use Rattle.record.specs.View.Spaced.{Spaced};
 ghost use Rattle.record.specs.View.Head.{headOf, ReadHead};
-ghost use Rattle.record.specs.View.Segments.{sums, Kept, Steps, wide, most, Runs, paddedUnits, segmentForm};
+ghost use Rattle.record.specs.View.Segments.{sums, Kept, Steps, Whole, lifted, wide, most, Runs, paddedUnits, segmentForm};
 ghost use Rattle.record.specs.View.Field.{Ranged};
 ghost use Rattle.record.specs.Promise.{Reads};
 use super::Outcome;
 use super::accept;
 use super::field::Field;
+use super::field::LIMIT;
 use super::field::amount;
 use super::field::byte;
 use super::field::half;
 use super::field::in_range;
+use super::field::number;
 use super::head::Head;
 use super::refuse;
 use super::rows::units_of;
@@ -115,6 +117,58 @@ fn segments(s: &[u8], c: Cursor, n: u64, priced: bool) -> Step
     Step::Next(d)
 }
 
+// The totals after n units of a ladder that lie within the record: two sums, with no test between.
+fn totals(s: &[u8], c: Cursor, n: u64) -> Cursor
+    requires { ⌜ Whole (now s) n (sums c) ⌝ }
+    ensures { λ r. ⌜ sums r ≡ lifted (now (s .entry)) n (sums c) ⌝ }
+{
+    let mut i = c.at;
+    let mut cost = c.cost;
+    let mut value = c.value;
+    let mut left = n;
+    while 0 < left {
+        cost += number(s, i) as u64;
+        value += number(s, i + 4) as u64;
+        i += 8;
+        left -= 1;
+    }
+    Cursor {
+        at: i,
+        units: c.units,
+        cost,
+        value,
+    }
+}
+
+// n units of a ladder that lie within the record: no total falls, so the last ones decide.
+fn ladder(s: &[u8], c: Cursor, n: u64) -> Step
+    requires { ⌜ Whole (now s) n (sums c) ⌝ }
+    ensures { λ r. ⌜ Steps (now (s .entry)) (c .at + n * 8) (segments false (now (s .entry)) n (sums c)) r ⌝ }
+{
+    let d = totals(s, c, n);
+    if LIMIT < d.cost {
+        return Step::Refused(Refusal::Limit);
+    }
+    if LIMIT < d.value {
+        return Step::Refused(Refusal::Limit);
+    }
+    Step::Next(d)
+}
+
+// Validates n segments, by the totals alone where that is enough.
+fn validate(s: &[u8], c: Cursor, n: u64, priced: bool) -> Step
+    requires { ⌜ (n ≤ 1000) × ((c .at ≤ length (now s)) × Kept (sums c)) ⌝ }
+    ensures { λ r. ⌜ Steps (now (s .entry)) (c .at + n * size priced) (segments priced (now (s .entry)) n (sums c)) r ⌝ }
+{
+    if priced {
+        return segments(s, c, n, true);
+    }
+    if ((s.len() - c.at) as u64) < n * 8 {
+        return segments(s, c, n, false);
+    }
+    ladder(s, c, n)
+}
+
 // How many segments there are.
 fn segment_count(s: &[u8], at: usize, priced: bool) -> Field
     ensures { λ r. ⌜ Ranged (wide priced) (most priced) (now (s .entry)) at r ⌝ }
@@ -150,7 +204,7 @@ fn find_segments(s: &[u8], at: usize, priced: bool) -> RunReply
                 cost: 0,
                 value: 0,
             };
-            match segments(s, c, n, priced) {
+            match validate(s, c, n, priced) {
                 Step::Refused(e) => RunReply::Refused(e),
                 Step::Next(d) => {
                     if d.at != s.len() {
@@ -166,20 +220,6 @@ fn find_segments(s: &[u8], at: usize, priced: bool) -> RunReply
     }
 }
 
-// The bytes of a segment.
-fn size_of(priced: bool) -> usize
-    ensures { λ r. ⌜ r ≡ size priced ⌝ }
-{
-    if priced { 9 } else { 8 }
-}
-
-// Where in a segment its cost begins.
-fn skip_of(priced: bool) -> usize
-    ensures { λ r. ⌜ r ≡ skip priced ⌝ }
-{
-    if priced { 1 } else { 0 }
-}
-
 // Stores n costs, each `step` bytes after the one before, and the values 4 bytes after each.
 fn fill(s: &[u8], at: usize, step: usize, n: usize, costs: &mut [u32], values: &mut [u32])
     requires { ⌜ Spaced 8 (now s) at step n × ((n ≤ length (now costs)) × (n ≤ length (now values))) ⌝ }
@@ -188,10 +228,29 @@ fn fill(s: &[u8], at: usize, step: usize, n: usize, costs: &mut [u32], values: &
     let mut k = 0;
     let mut i = at;
     while k < n {
-        costs[k] = area::num_u32(s, i);
-        values[k] = area::num_u32(s, i + 4);
+        costs[k] = number(s, i);
+        values[k] = number(s, i + 4);
         i += step;
         k += 1;
+    }
+}
+
+// Stores the costs and values of n segments, which reach to the record's end.
+fn fill_segments(
+    s: &[u8],
+    first: usize,
+    n: usize,
+    priced: bool,
+    costs: &mut [u32],
+    values: &mut [u32],
+)
+    requires { ⌜ (first + n * size priced ≡ length (now s)) × ((n ≤ length (now costs)) × (n ≤ length (now values))) ⌝ }
+    ensures { λ _. ⌜ (now (costs .exit) ≡ column 4 (now (s .entry)) (first + skip priced) (size priced) n ++ drop n (now (costs .entry))) × (now (values .exit) ≡ column 4 (now (s .entry)) (first + skip priced + 4) (size priced) n ++ drop n (now (values .entry))) ⌝ }
+{
+    if priced {
+        fill(s, first + 1, 9, n, costs, values);
+    } else {
+        fill(s, first, 8, n, costs, values);
     }
 }
 
@@ -229,8 +288,7 @@ pub(crate) fn read_segments(
                 return refuse(Refusal::Short);
             }
             let first = p.first;
-            let step = size_of(priced);
-            fill(s, first + skip_of(priced), step, n, costs, values);
+            fill_segments(s, first, n, priced, costs, values);
             accept(h, n, segment_units(s, first, n, priced))
         }
     }

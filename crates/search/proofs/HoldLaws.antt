@@ -16,7 +16,7 @@ use Rattle.exchange.specs.Forms.{holdsRow}
 use Rattle.search.proofs.BoolLaws.{and-false, and-true}
 
 -- one item more, from the end
-holds-cons : (j : ℕ) (us : List ℕ) (a b : ℕ) → j < length us
+pub holds-cons : (j : ℕ) (us : List ℕ) (a b : ℕ) → j < length us
     → holdsRow (drop j us) a b ≡ (leb (a / rowsOf (drop (j + 1) us) % (getD us j 0 + 1)) (b / rowsOf (drop (j + 1) us) % (getD us j 0 + 1)) && holdsRow (drop (j + 1) us) a b)
 unfolding holdsRow
 holds-cons j us a b h = rw (add-one, drop-cons us j 0 h)

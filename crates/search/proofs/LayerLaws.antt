@@ -1,149 +1,216 @@
--- The search as the code makes it finds what each row needs. Assumes nothing.
-use mathlib.Core.Path.{_≡_, refl, ap, _∙_}
-use mathlib.Core.Bool.{Bool, true, false, cond, _&&_}
+-- One step of the search. Only a row whose sum has changed offers something new, so the least floor of the rows that can follow a row is
+-- the lesser of the sum it had and the floors that the changed rows offer. Assumes nothing.
+use mathlib.Core.Path.{_≡_, sym, subst, _∙_}
+use mathlib.Core.Bool.{cond}
+use mathlib.Core.Logic.{_⊎_, ⊎-elim, inl, inr}
 use mathlib.Core.List.{List}
-use Prim.Native.Nat.{ℕ, zero, suc, min, _+_, _-_, _*_, _≤_, _<_}
-use native.Mathlib.Nat.{mul-le-mul-right}
-use native.Mathlib.Decide.{ℕ-discrete}
-use native.Mathlib.Numerals.{add-one}
+use Prim.Native.Nat.{ℕ, suc, min, _≤_, _<_}
+use native.Mathlib.Nat.{le-refl, le-trans}
+use native.Mathlib.Decide.{ℕ-discrete, decLt}
 use native.Mathlib.Omega.{arith}
-use borrow.Author.Tests.{le-leb, lt-leb, lt-ltb, le-ltb, ltb-true, ltb-false}
-use lib.Dec.{leb, ltb}
-use lib.ListN.{length, getD, set}
+use borrow.Author.Tests.{lt-ltb, le-ltb}
+use lib.Dec.{T, ltb}
+use lib.ListN.{getD, set, replicate, length-replicate, getD-replicate}
 use lib.Seq.{getD-set-same, getD-set-other}
-use Rattle.exchange.specs.Bounds.{upperOf, lowerOf}
-use Rattle.exchange.specs.Rule.{coins}
 use Rattle.exchange.specs.Work.{Work}
-use Rattle.exchange.specs.Forms.{holdsRow}
-use Rattle.exchange.specs.Search.{leastFloor, need}
-use Rattle.exchange.proofs.TablePlan.Floor.{floor-ext}
-use Rattle.exchange.proofs.TablePlan.RowUnits.{holds-rises}
-use Rattle.search.specs.Layers.{capOf, floorOf, mark, working, searched, Table, sumAt, betterOf, scan, Filled, valueOf, Needs, Named}
-use Rattle.search.specs.declared.Best.{Best}
-use Rattle.search.specs.declared.Terms.{Terms}
-use Rattle.search.proofs.BoolLaws.{and-false}
+use Rattle.exchange.specs.Search.{follows, leastFloor}
+use Rattle.exchange.proofs.TablePlan.Floor.{IsLeast, floor-is-least}
+use Rattle.exchange.proofs.TablePlan.Need.{follows↔}
+use Rattle.search.specs.Layers.{mark, sumAt, valueOf, Layer, Offer, offered, offerAt, Offers, Listed, Among, TakenOver, Stepped}
+use Rattle.search.proofs.LimitLaws.{Priced}
+use Rattle.search.proofs.OfferLaws.{Best, Agrees, best-all}
 
-module _ (t : Bool) (needs cap floor b : ℕ) (old : Best) where
-  pub better-shut : cap < needs → betterOf t needs cap floor b old ≡ old
-  unfolding betterOf
-  better-shut h = rw (lt-leb needs cap h, and-false t)
+-- ---- between two steps
 
-  pub better-more : old .sum ≤ floor → betterOf t needs cap floor b old ≡ old
-  unfolding betterOf
-  better-more h = rw (le-ltb floor (old .sum) h, and-false (t && leb needs cap))
+-- x names the row of which row a has its sum: its floor is at most the sum, and no less than the step to come can offer
+pub record Names (w : Work) (sums : List ℕ) (a x : ℕ) : Type 0 where
+  pub bound : leastFloor w mark (sumAt sums) a (suc (w .last)) ≤ valueOf w x
+  pub named : valueOf w x ≤ sumAt sums a
+  pub marked : sumAt sums a ≤ mark
 
-  pub better-no : t ≡ false → betterOf t needs cap floor b old ≡ old
-  unfolding betterOf
-  better-no e = rw e
+-- each row has its name, and every row that can follow another is listed as changed or has offered its floor before
+pub record Searched (w : Work) (sums named changed : List ℕ) (n : ℕ) : Type 0 where
+  pub names : (a : ℕ) → a ≤ w .last → Names w sums a (getD named a 0)
+  pub complete : (a b : ℕ) → a ≤ w .last → b ≤ w .last → T (follows w (sumAt sums) a b) → (sumAt sums a ≤ w .floor b) ⊎ Among changed n b
+  pub listed : Listed changed n (suc (w .last))
 
-  pub better-yes : t ≡ true → needs ≤ cap → floor < old .sum → betterOf t needs cap floor b old ≡ record { row = b; sum = floor }
-  unfolding betterOf
-  better-yes e h k = rw (e, le-leb needs cap h, lt-ltb floor (old .sum) k)
+-- ---- the start
 
--- the cap and the floor of a row, by the number of rows
-module _ (t : Terms) (us costs values : List ℕ) (good : Table t us) where
-  pub cap-is : (r a : ℕ) → r ≡ capOf t costs a → r ≡ working t us costs values .cap a
-  cap-is r a e = e ∙ ap (λ (n : ℕ). min (coins (upperOf (t .sides .price) (getD costs (n - 1) 0) (getD costs a 0) (t .sides .supplier))) (t .sides .price)) (good .rows-are)
+-- an array with v at one place
+module _ (x p v : ℕ) (h : p < 128) where
+  one-there : getD (set (replicate 128 x) p v) p 0 ≡ v
+  one-there = getD-set-same (replicate 128 x) p v 0 (omega (arith, length-replicate {A = ℕ} 128 x))
 
-  pub floor-is : (r b : ℕ) → r ≡ floorOf t values b → r ≡ working t us costs values .floor b
-  floor-is r b e = e ∙ ap (λ (n : ℕ). coins (lowerOf (t .sides .price) (getD values (n - 1) 0) (getD values b 0) (t .sides .buyer))) (good .rows-are)
+  one-other : (a : ℕ) → a < 128 → (a ≡ p → ⊥) → getD (set (replicate 128 x) p v) a 0 ≡ x
+  one-other a l n = getD-set-other (replicate 128 x) p a v 0 n ∙ getD-replicate 128 a x 0 l
 
--- one row more is looked at
-pub scan-next : (w : Work) (sums : List ℕ) (a b cap : ℕ) (old new : Best) → cap ≡ w .cap a → old ≡ scan w sums a b
-    → new ≡ betterOf (w .holds a b) (getD sums b 0) cap (w .floor b) b old → new ≡ scan w sums a (b + 1)
-unfolding scan
-scan-next w sums a b cap old new c o e = rw (add-one, ← o, ← c) e
-
--- no row below row a holds its units, so none of them can follow it
-module _ (t : Terms) (us costs floors : List ℕ) (good : Table t us) (sums : List ℕ) (a : ℕ) (h : a < t .rows) where
-  not-held : (n : ℕ) → n < a → holdsRow us a n ≡ false
-  not-held n l = go (holdsRow us a n) refl
+module _ (w : Work) (few : w .last < 128) (priced : Priced w) where
+  pub searched-start : Searched w (set (replicate 128 mark) (w .last) (w .price)) (set (replicate 128 255) (w .last) (w .last)) (set (replicate 128 255) 0 (w .last)) 1
+  searched-start =
+      record {
+        names = λ a l. name a l (ℕ-discrete a (w .last));
+        complete = λ a b la lb t. only a b lb t (ℕ-discrete b (w .last));
+        listed = record { few = omega arith; in-rows = λ i l. row i (omega arith) };
+      }
     where
-      go : (x : Bool) → holdsRow us a n ≡ x → x ≡ false
-      go true e = absurd (omega (arith, holds-rises us a n (omega (arith, good .rows-are)) (omega (arith, good .rows-are)) (rw e tt)))
-      go false e = refl
+      here : getD (set (replicate 128 mark) (w .last) (w .price)) (w .last) 0 ≡ w .price
+      here = one-there mark (w .last) (w .price) few
 
-  pub scan-below : (n : ℕ) → n ≤ a → scan (searched t us costs floors) sums a n ≡ record { row = 255; sum = mark }
-  unfolding scan
-  scan-below zero l = refl
-  scan-below (suc n) l =
-      let w : Work = searched t us costs floors in
-      better-no (holdsRow us a n) (sumAt sums n) (w .cap a) (w .floor n) n (scan w sums a n) (not-held n l)
-      ∙ scan-below n (omega arith)
+      name : (a : ℕ) → a ≤ w .last → Dec (a ≡ w .last)
+          → Names w (set (replicate 128 mark) (w .last) (w .price)) a (getD (set (replicate 128 255) (w .last) (w .last)) a 0)
+      name a l (yes q) =
+          let e = one-there 255 (w .last) (w .last) few in
+          let says : valueOf w (w .last) ≡ w .floor (w .last) = rw (lt-ltb (w .last) 128 few) in
+          let sums = set (replicate 128 mark) (w .last) (w .price) in
+          let follow : T (follows w (sumAt sums) (w .last) (w .last)) =
+          follows↔ w (sumAt sums) (w .last) (w .last) .1 (record { delivers = priced .holds-last; affords = rw here (priced .cap-last) }) in
+          rw (q, e)
+          (record {
+            bound = rw says (floor-is-least w mark (sumAt sums) (w .last) (suc (w .last)) .least (w .last) (omega arith) follow);
+            named = rw (says, here) (priced .floor-last);
+            marked = rw here (omega (arith, priced .high));
+          })
+      name a l (no n) =
+          let sums = set (replicate 128 mark) (w .last) (w .price) in
+          let e = one-other 255 (w .last) (w .last) few a (omega arith) n in
+          let z = one-other mark (w .last) (w .price) few a (omega arith) n in
+          rw e
+          (record {
+            bound = floor-is-least w mark (sumAt sums) a (suc (w .last)) .marked;
+            named = rw z (le-refl mark);
+            marked = rw z (le-refl mark);
+          })
 
--- the first rows of a layer
-pub filled-none : (w : Work) (sums : List ℕ) (rows at : ℕ) (work next : List ℕ) → Filled w sums rows at work work next 0
-filled-none w sums rows at work next =
-    record { sum-is = λ a h. absurd (omega arith); row-is = λ a h. absurd (omega arith); kept = λ k h. refl }
+      only : (a b : ℕ) → b ≤ w .last → T (follows w (sumAt (set (replicate 128 mark) (w .last) (w .price))) a b) → Dec (b ≡ w .last)
+          → (sumAt (set (replicate 128 mark) (w .last) (w .price)) a ≤ w .floor b) ⊎ Among (set (replicate 128 255) 0 (w .last)) 1 b
+      only a b l t (yes q) = inr (record { index = 0; below = omega arith; entry = one-there 255 0 (w .last) (omega arith) ∙ sym q })
+      only a b l t (no n) =
+          let sums = set (replicate 128 mark) (w .last) (w .price) in
+          let z = one-other mark (w .last) (w .price) few b (omega arith) n in
+          let f = follows↔ w (sumAt sums) a b .0 t in
+          absurd (omega (arith, f .affords, z, priced .cap-price a, priced .high))
 
-pub filled-more : (w : Work) (sums : List ℕ) (rows at : ℕ) (old new next : List ℕ) (i : ℕ) → Filled w sums rows at old new next i
-    → i < length next → at + i < length new → (b : Best) → b ≡ scan w sums i rows
-    → Filled w sums rows at old (set new (at + i) (b .row)) (set next i (b .sum)) (i + 1)
-filled-more w sums rows at old new next i f hn hw b e =
-    record {
-      sum-is = λ a h. sum-at a h (ℕ-discrete a i);
-      row-is = λ a h. row-at a h (ℕ-discrete a i);
-      kept = λ k h. getD-set-other new (at + i) k (b .row) 0 (λ q. omega arith) ∙ f .kept k h;
-    }
+      row : (i : ℕ) → i ≡ 0 → getD (set (replicate 128 255) 0 (w .last)) i 0 < suc (w .last)
+      row i e = rw (e, one-there 255 0 (w .last) (omega arith)) (omega arith)
+
+-- ---- one step
+
+-- where no row needs more, the least floor is no greater
+least-falls : (w : Work) (sums sums′ : List ℕ) (a : ℕ) → ((b : ℕ) → b ≤ w .last → sumAt sums′ b ≤ sumAt sums b)
+    → leastFloor w mark (sumAt sums′) a (suc (w .last)) ≤ leastFloor w mark (sumAt sums) a (suc (w .last))
+least-falls w sums sums′ a h = go (decLt (leastFloor w mark (sumAt sums) a (suc (w .last))) mark)
   where
-    sum-at : (a : ℕ) → a < i + 1 → Dec (a ≡ i) → getD (set next i (b .sum)) a 0 ≡ scan w sums a rows .sum
-    sum-at a h (yes q) = rw (q, ← e) (getD-set-same next i (b .sum) 0 hn)
-    sum-at a h (no n) = getD-set-other next i a (b .sum) 0 n ∙ f .sum-is a (omega arith)
+    old : IsLeast w mark (sumAt sums) a (suc (w .last)) (leastFloor w mark (sumAt sums) a (suc (w .last)))
+    old = floor-is-least w mark (sumAt sums) a (suc (w .last))
 
-    row-at : (a : ℕ) → a < i + 1 → Dec (a ≡ i) → getD (set new (at + i) (b .row)) (at + a) 0 ≡ scan w sums a rows .row
-    row-at a h (yes q) = rw (q, ← e) (getD-set-same new (at + i) (b .row) 0 hw)
-    row-at a h (no n) = getD-set-other new (at + i) (at + a) (b .row) 0 (λ q. n (omega arith)) ∙ f .row-is a (omega arith)
+    new : IsLeast w mark (sumAt sums′) a (suc (w .last)) (leastFloor w mark (sumAt sums′) a (suc (w .last)))
+    new = floor-is-least w mark (sumAt sums′) a (suc (w .last))
 
--- ---- the sum and the row that a scan gives
+    go : Dec (leastFloor w mark (sumAt sums) a (suc (w .last)) < mark)
+        → leastFloor w mark (sumAt sums′) a (suc (w .last)) ≤ leastFloor w mark (sumAt sums) a (suc (w .last))
+    go (yes l) =
+        let x = old .attained l in
+        let f = follows↔ w (sumAt sums) a (x .row) .0 (x .follow) in
+        let t : T (follows w (sumAt sums′) a (x .row)) =
+        follows↔ w (sumAt sums′) a (x .row) .1 (record { delivers = f .delivers; affords = le-trans (h (x .row) (omega (arith, x .below))) (f .affords) }) in
+        omega (arith, new .least (x .row) (x .below) t, x .floor-is)
+    go (no n) = omega (arith, new .marked)
 
-better-sum : (t : Bool) (needs cap floor b : ℕ) (old : Best)
-    → betterOf t needs cap floor b old .sum ≡ cond (t && leb needs cap) (min floor (old .sum)) (old .sum)
-unfolding betterOf
-better-sum t needs cap floor b old = go (t && leb needs cap) (ltb floor (old .sum)) refl
-  where
-    go : (x y : Bool) → ltb floor (old .sum) ≡ y → cond (x && y) (record { row = b; sum = floor }) old .sum ≡ cond x (min floor (old .sum)) (old .sum)
-    go true true e = let h : floor < old .sum = ltb-true floor (old .sum) e in omega arith
-    go true false e = let h : old .sum ≤ floor = ltb-false floor (old .sum) e in omega arith
-    go false y e = refl
+-- the lesser of the sum and the best offer is the least floor of all rows that can follow
+module _ (w : Work) (sums named changed : List ℕ) (n : ℕ) (h : Searched w sums named changed n) (a : ℕ) (l : a ≤ w .last) (o : Offer) (best : Best w sums changed n a o) where
+  best-least : min (o .sum) (sumAt sums a) ≡ leastFloor w mark (sumAt sums) a (suc (w .last))
+  best-least = go (decLt (leastFloor w mark (sumAt sums) a (suc (w .last))) mark)
+    where
+      all : IsLeast w mark (sumAt sums) a (suc (w .last)) (leastFloor w mark (sumAt sums) a (suc (w .last)))
+      all = floor-is-least w mark (sumAt sums) a (suc (w .last))
 
-better-value : (w : Work) (t : Bool) (needs cap b : ℕ) (old : Best) → b < 128 → valueOf w (old .row) ≡ old .sum
-    → valueOf w (betterOf t needs cap (w .floor b) b old .row) ≡ betterOf t needs cap (w .floor b) b old .sum
-unfolding betterOf
-better-value w t needs cap b old h k = go (t && leb needs cap && ltb (w .floor b) (old .sum))
-  where
-    go : (x : Bool) → valueOf w (cond x (record { row = b; sum = w .floor b }) old .row) ≡ cond x (record { row = b; sum = w .floor b }) old .sum
-    go true = rw (lt-ltb b 128 h)
-    go false = k
+      up : leastFloor w mark (sumAt sums) a (suc (w .last)) ≤ min (o .sum) (sumAt sums a)
+      up = le-trans (best .bound) (best .named)
 
-module _ (w : Work) (sums : List ℕ) (a : ℕ) where
-  scan-sum : (n : ℕ) → scan w sums a n .sum ≡ leastFloor w mark (sumAt sums) a n
-  unfolding scan leastFloor
-  scan-sum zero = refl
-  scan-sum (suc n) =
-      better-sum (w .holds a n) (sumAt sums n) (w .cap a) (w .floor n) n (scan w sums a n)
-      ∙ ap (λ (z : ℕ). cond (w .holds a n && leb (sumAt sums n) (w .cap a)) (min (w .floor n) z) z) (scan-sum n)
+      offer-of : (b : ℕ) → T (follows w (sumAt sums) a b) → Among changed n b → min (o .sum) (sumAt sums a) ≤ w .floor b
+      offer-of b t x = rw (← x .entry) (best .least (x .index) (x .below) (rw (x .entry) t))
 
-  scan-value : (n : ℕ) → n ≤ 128 → valueOf w (scan w sums a n .row) ≡ scan w sums a n .sum
-  unfolding scan
-  scan-value zero h = refl
-  scan-value (suc n) h = better-value w (w .holds a n) (sumAt sums n) (w .cap a) n (scan w sums a n) (omega arith) (scan-value n (omega arith))
+      go : Dec (leastFloor w mark (sumAt sums) a (suc (w .last)) < mark)
+          → min (o .sum) (sumAt sums a) ≡ leastFloor w mark (sumAt sums) a (suc (w .last))
+      go (yes m) =
+          let x = all .attained m in
+          let down : min (o .sum) (sumAt sums a) ≤ w .floor (x .row) =
+          ⊎-elim (λ (q : sumAt sums a ≤ w .floor (x .row)). omega arith) (offer-of (x .row) (x .follow))
+          (h .complete a (x .row) l (omega (arith, x .below)) (x .follow)) in
+          omega (arith, up, x .floor-is)
+      go (no m) = omega (arith, up, best .marked)
 
--- ---- one layer from the one before
+  name-least : valueOf w (o .row) ≡ leastFloor w mark (sumAt sums) a (suc (w .last))
+  name-least = omega (arith, best .bound, best .named, best-least)
 
-module _ (w : Work) (rows : ℕ) (all : rows ≡ suc (w .last)) (few : rows ≤ 128) where
-  step-sum : (sums : List ℕ) (j a : ℕ) → Needs w j sums → scan w sums a rows .sum ≡ need w mark (suc j) a
-  unfolding need
-  step-sum sums j a h = rw all (scan-sum w sums a (suc (w .last)) ∙ floor-ext w mark (sumAt sums) (need w mark j) a (suc (w .last)) (λ b l. h b (omega arith)))
+  sum-least : (s : ℕ) → s ≡ cond (ltb (o .sum) mark) (o .sum) (sumAt sums a) → s ≡ leastFloor w mark (sumAt sums) a (suc (w .last))
+  sum-least s e = e ∙ go (decLt (o .sum) mark) ∙ best-least
+    where
+      go : Dec (o .sum < mark) → cond (ltb (o .sum) mark) (o .sum) (sumAt sums a) ≡ min (o .sum) (sumAt sums a)
+      go (yes m) = rw (lt-ltb (o .sum) mark m) (omega (arith, best .lower m))
+      go (no m) = rw (le-ltb (o .sum) mark (omega arith)) (omega (arith, h .names a l .marked))
 
-  module _ (sums : List ℕ) (j at : ℕ) (old new next : List ℕ) (h : Needs w j sums) (f : Filled w sums rows at old new next rows) where
-    pub needs-next : Needs w (suc j) next
-    needs-next a l = f .sum-is a (omega arith) ∙ step-sum sums j a h
+module _ (w : Work) (ly : Layer) (agrees : Agrees w (ly .units) (ly .caps) (ly .floors)) {named changed sums′ named′ changed′ : List ℕ} {n n′ : ℕ}
+    (h : Searched w (ly .sums) named changed n) (s : Stepped ly (suc (w .last)) named changed n sums′ named′ changed′ n′) where
+  begun : (a : ℕ) → a ≤ w .last → Best w (ly .sums) changed 0 a (offerAt (replicate 128 mark) named a)
+  begun a l =
+      let z : getD (replicate 128 mark) a 0 ≡ mark = getD-replicate 128 a mark 0 (omega (arith, agrees .few)) in
+      let m = h .names a l in
+      record {
+        bound = m .bound;
+        named = rw z (omega (arith, m .named, m .marked));
+        least = λ k k0 t. absurd (omega arith);
+        lower = λ q. absurd (omega (arith, z));
+        marked = rw z (le-refl mark);
+      }
 
-    pub named-next : at ≡ suc j * rows → Named w rows old j → Named w rows new (suc j)
-    named-next e s i a p q l = go (ℕ-discrete i (suc j))
-      where
-        go : Dec (i ≡ suc j) → valueOf w (getD new (i * rows + a) 0) ≡ need w mark i a
-        go (yes x) = rw (x, ← e, f .row-is a l) (scan-value w sums a rows few ∙ step-sum sums j a h)
-        go (no n) =
-            let m : i * rows ≤ j * rows = mul-le-mul-right rows (omega arith) in
-            rw (f .kept (i * rows + a) (omega arith)) (s i a p (omega arith) l)
+  best : (a : ℕ) → a ≤ w .last → Best w (ly .sums) changed n a (offerAt (s .next) named′ a)
+  best a l = rw (s .offers .offer-is a (omega arith)) (best-all w ly agrees changed a l n _ (h .listed) (begun a l) n (le-refl n))
+
+  -- the sums are the least floors by the sums before
+  pub sums-least : (a : ℕ) → a ≤ w .last → getD sums′ a 0 ≡ leastFloor w mark (sumAt (ly .sums)) a (suc (w .last))
+  sums-least a l = sum-least w (ly .sums) named changed n h a l (offerAt (s .next) named′ a) (best a l) (getD sums′ a 0) (s .over .sum-is a (omega arith))
+
+  -- and the rows that are named have them
+  pub names-least : (a : ℕ) → a ≤ w .last → valueOf w (getD named′ a 0) ≡ leastFloor w mark (sumAt (ly .sums)) a (suc (w .last))
+  names-least a l = name-least w (ly .sums) named changed n h a l (offerAt (s .next) named′ a) (best a l)
+
+  falls : (a : ℕ) → a ≤ w .last → sumAt sums′ a ≤ sumAt (ly .sums) a
+  falls a l = omega (arith, sums-least a l, best-least w (ly .sums) named changed n h a l (offerAt (s .next) named′ a) (best a l))
+
+  -- a row without a better offer keeps its sum
+  same-sum : (b : ℕ) → b ≤ w .last → (getD (s .next) b 0 < mark → ⊥) → getD sums′ b 0 ≡ getD (ly .sums) b 0
+  same-sum b l m = s .over .sum-is b (omega arith) ∙ rw (le-ltb (getD (s .next) b 0) mark (omega arith))
+
+  pub searched-next : Searched w sums′ named′ changed′ n′
+  searched-next =
+      record {
+        names = λ a l.
+            record {
+              bound = rw (names-least a l) (least-falls w (ly .sums) sums′ a falls);
+              named = rw (names-least a l, sums-least a l) (le-refl _);
+              marked = le-trans (falls a l) (h .names a l .marked);
+            };
+        complete = λ a b la lb t. go a b la lb t (decLt (getD (s .next) b 0) mark);
+        listed = s .over .listed;
+      }
+    where
+      go : (a b : ℕ) → a ≤ w .last → b ≤ w .last → T (follows w (sumAt sums′) a b) → Dec (getD (s .next) b 0 < mark)
+          → (sumAt sums′ a ≤ w .floor b) ⊎ Among changed′ n′ b
+      go a b la lb t (yes m) = inr (s .over .lists b (omega arith) m)
+      go a b la lb t (no m) =
+          let f = follows↔ w (sumAt sums′) a b .0 t in
+          let t′ : T (follows w (sumAt (ly .sums)) a b) =
+          follows↔ w (sumAt (ly .sums)) a b .1 (record { delivers = f .delivers; affords = rw (← same-sum b lb m) (f .affords) }) in
+          inl (rw (sums-least a la) (floor-is-least w mark (sumAt (ly .sums)) a (suc (w .last)) .least b (omega arith) t′))
+
+  -- where no row is listed, no sum has changed
+  pub sums-same : n′ ≡ 0 → (a : ℕ) → a ≤ w .last → getD sums′ a 0 ≡ getD (ly .sums) a 0
+  sums-same z a l = same-sum a l (λ m. omega (arith, s .over .lists a (omega arith) m .below, z))
+
+-- the step as the code makes it, by the number of rows that it is given
+pub stepped : {l : Layer} {named changed sums′ named′ changed′ next : List ℕ} {rows all n n′ : ℕ} → rows ≡ all
+    → Offers (offered l changed n) all (replicate 128 mark) named next named′ → TakenOver next (l .sums) sums′ changed′ n′ all
+    → Stepped l rows named changed n sums′ named′ changed′ n′
+stepped {l} {named} {changed} {sums′} {named′} {changed′} {next} {n = n} {n′ = n′} e off over =
+    subst (λ (r : ℕ). Stepped l r named changed n sums′ named′ changed′ n′) (sym e) (record { next = next; offers = off; over = over })

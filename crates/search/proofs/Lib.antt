@@ -1,8 +1,12 @@
 pub mod BoolLaws
 pub mod BoundLaws
 pub mod HoldLaws
+pub mod UnitLaws
+pub mod LimitLaws
+pub mod OfferLaws
+pub mod ListLaws
 pub mod LayerLaws
-pub mod FloorLaws
+pub mod TakeLaws
 pub mod CountLaws
 pub mod WalkLaws
 pub mod SuitLaws

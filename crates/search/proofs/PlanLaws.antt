@@ -11,6 +11,7 @@ use Rattle.area.specs.Entries.{Cleared}
 use Rattle.area.proofs.FilledLaws.{filled}
 use Rattle.grid.specs.Rows.{rowsOf}
 use Rattle.exchange.specs.Deal.{State, Plan, start}
+use Rattle.exchange.specs.Work.{Lawful}
 use Rattle.exchange.specs.Forms.{table}
 use Rattle.exchange.specs.Search.{mostSteps, count, forwards}
 use Rattle.exchange.proofs.Bridge.{lawful}
@@ -19,7 +20,7 @@ use Rattle.exchange.proofs.TablePlan.{table-counted, table-earliest}
 use Rattle.exchange.proofs.TablePlan.Forward.{forwards-length}
 use Rattle.search.specs.declared.Terms.{Terms}
 use Rattle.search.specs.Promise.{suits, Rise, Success}
-use Rattle.search.specs.Layers.{mark, working, Table, Counted, CanWalk, Written, startTest}
+use Rattle.search.specs.Layers.{mark, working, Table, Counted, CanWalk, Walked, startTest}
 use Rattle.search.proofs.SuitLaws.{Suits, fit, rows-few, some-units, start↔}
 
 -- a table that suits, with at most n steps
@@ -40,6 +41,9 @@ module _ {t : Terms} {us costs values places sums work : List ℕ} {n : ℕ} (f 
   pub work-suits : t .rows * (n + 1) ≤ length work
   work-suits = rw (f .good .rows-are, f .most) (f .suit .work-room)
 
+  law : Rise us costs values → Lawful (working t us costs values)
+  law r = lawful _ (table-rising (t .sides) us costs values (f .suit .costs-all) (f .suit .values-all) (r .costs-rise) (r .values-rise))
+
   -- a start that is not safe
   pub no-start : startTest t costs values ≡ false → Rise us costs values → (ys : List State) → Plan (table (t .sides) us costs values) ys → ⊥
   no-start unsafe r ys p =
@@ -48,9 +52,7 @@ module _ {t : Terms} {us costs values places sums work : List ℕ} {n : ℕ} (f 
 
   module _ {work′ : List ℕ} {k : ℕ} (c : Counted (working t us costs values) (t .rows) n work′ k) where
     counted : Rise us costs values → k ≡ count (working t us costs values) mark (mostSteps us)
-    counted r =
-        rw (← f .most)
-        (c .count-is (lawful _ (table-rising (t .sides) us costs values (f .suit .costs-all) (f .suit .values-all) (r .costs-rise) (r .values-rise))))
+    counted r = rw (← f .most) (c .count-is (law r))
 
     -- no count of steps
     pub no-count : n < k → Rise us costs values → (ys : List State) → Plan (table (t .sides) us costs values) ys → ⊥
@@ -60,11 +62,12 @@ module _ {t : Terms} {us costs values places sums work : List ℕ} {n : ℕ} (f 
         omega (arith, q .1, f .most)
 
     module _ (l : k ≤ n) where
-      pub can-walk : length work′ ≡ length work → CanWalk t us costs values work′ k places sums
-      can-walk same =
+      pub can-walk : t .sides .price < mark → length work′ ≡ length work → CanWalk t us costs values work′ k places sums
+      can-walk high same =
           record {
             good = f .good;
-            named = c .named l;
+            high = high;
+            reached = c .reached l;
             work-room = omega (arith, mul-le-mul-right (t .rows) l, mul-comm (t .rows) (n + 1), work-suits);
             places-room = omega (arith, f .suit .places-room, f .most);
             sums-room = omega (arith, f .suit .sums-room, f .most);
@@ -72,11 +75,12 @@ module _ {t : Terms} {us costs values places sums work : List ℕ} {n : ℕ} (f 
 
       -- the plan that the areas hold
       pub planned-success : t .sides .price < mark → startTest t costs values ≡ true → {places₁ sums₁ places′ sums′ : List ℕ}
-          → Written 2 (map (λ s. s .place) (forwards (working t us costs values) mark k start)) places places₁ k
-          → Written 4 (map (λ s. s .paid) (forwards (working t us costs values) mark k start)) sums sums₁ k
+          → (Lawful (working t us costs values) → Walked (working t us costs values) k places places₁ sums sums₁)
           → Cleared 2 places₁ places′ k → Cleared 4 sums₁ sums′ k → Rise us costs values
           → Success (table (t .sides) us costs values) k places sums places′ sums′
-      planned-success high safe {places₁} {sums₁} {places′} {sums′} wp ws cp cs r =
+      planned-success high safe {places₁} {sums₁} {places′} {sums′} walked cp cs r =
+          let wp = walked (law r) .places-are in
+          let ws = walked (law r) .sums-are in
           record {
             plan = xs;
             earliest =

@@ -1,2 +1,3 @@
 pub mod Promise
+pub mod Units
 pub mod Layers

@@ -1,5 +1,7 @@
 -- the plan in two areas, state by state
 pub mod PlanLaws
+-- a step read from the areas
+pub mod StepLaws
 -- what the code's tests say of a session and of a report
 pub mod CodeLaws
 -- what opening answers

@@ -1,5 +1,5 @@
 -- Where a plan in two areas stands after some steps. Assumes nothing.
-use mathlib.Core.Path.{_≡_, refl, sym, ap, _∙_}
+use mathlib.Core.Path.{_≡_, refl, sym, _∙_}
 use mathlib.Core.Bool.{Bool, true, false, not, and-eq-true-iff}
 use mathlib.Core.List.{List, [], _∷_}
 use Prim.Native.Nat.{ℕ, zero, suc, _≤_, _<_}
@@ -12,10 +12,7 @@ use Rattle.exchange.specs.Deal.{State, start, after}
 use Rattle.exchange.specs.PlanIn.{states, planIn}
 use Rattle.exchange.proofs.PlanInLaws.{plan-length}
 use Rattle.planning.specs.Check.{holdsCount}
-use Rattle.session.specs.Session.{entryOf}
-use Rattle.session.specs.Code.{entryAfter, Held}
-use Rattle.session.specs.declared.Side.{Side}
-use Rattle.session.specs.declared.Side.the-variants.{Delivery, Payment}
+use Rattle.session.specs.Code.{Held}
 
 pub after-none : (s : State) (xs : List State) → after s xs 0 ≡ s
 after-none s [] = refl
@@ -55,12 +52,8 @@ module _ (count : ℕ) (places sums : List ℕ) where
     pub held-length : length (planIn count places sums) ≡ count
     held-length = plan-length places sums count (h .places-hold) (h .sums-hold)
 
-    -- the code's entry is the plan's
-    pub entry-after : (k : ℕ) (side : Side) → k ≤ count → entryAfter places sums k side ≡ entryOf side (after start (planIn count places sums) k)
+    -- after the next step the plan stands at the entries of that step
+    pub held-after : (k : ℕ) → k < count
+        → after start (planIn count places sums) (suc k) ≡ record { place = getD (entries 2 places) k 0; paid = getD (entries 4 sums) k 0 }
     unfolding planIn
-    entry-after zero Delivery l = rw (after-none start (planIn count places sums))
-    entry-after zero Payment l = rw (after-none start (planIn count places sums))
-    entry-after (suc k) Delivery l =
-        sym (ap (λ (t : State). t .place) (states-after start (entries 2 places) (entries 4 sums) count k (h .places-hold) (h .sums-hold) l))
-    entry-after (suc k) Payment l =
-        sym (ap (λ (t : State). t .paid) (states-after start (entries 2 places) (entries 4 sums) count k (h .places-hold) (h .sums-hold) l))
+    held-after k l = states-after start (entries 2 places) (entries 4 sums) count k (h .places-hold) (h .sums-hold) l

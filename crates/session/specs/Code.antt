@@ -1,20 +1,17 @@
 -- What the private functions of this crate ask and give.
+use mathlib.Core.Path.{_≡_}
+use mathlib.Core.Bool.{Bool}
 use mathlib.Core.List.{List}
-use Prim.Native.Nat.{ℕ, zero, suc, _≤_, _<_}
-use lib.ListN.{length, getD}
+use Prim.Native.Nat.{ℕ, suc, _≤_, _<_}
+use lib.ListN.{length}
 use Rattle.area.specs.Entries.{entries}
+use Rattle.exchange.specs.Deal.{State, start, after}
+use Rattle.exchange.specs.PlanIn.{planIn}
+use Rattle.session.specs.Session.{awaited}
+use Rattle.session.specs.declared.Session.{Session}
+use Rattle.session.specs.declared.step.Step.{Step}
 use Rattle.session.specs.declared.Side.{Side}
 use Rattle.session.specs.declared.Side.the-variants.{Delivery, Payment}
-
--- entry k of a side's area
-abbrev pub entryAt : List ℕ → List ℕ → ℕ → Side → ℕ
-entryAt places sums k Delivery = getD (entries 2 places) k 0
-entryAt places sums k Payment = getD (entries 4 sums) k 0
-
--- the entry of a side after k steps; 0 after none
-abbrev pub entryAfter : List ℕ → List ℕ → ℕ → Side → ℕ
-entryAfter places sums zero side = 0
-entryAfter places sums (suc k) side = entryAt places sums k side
 
 -- areas with as many entries as the count says
 pub record Held (count : ℕ) (places sums : List ℕ) : Type 0 where
@@ -25,3 +22,32 @@ pub record Held (count : ℕ) (places sums : List ℕ) : Type 0 where
 pub record Open (count : ℕ) (places sums : List ℕ) (k : ℕ) : Type 0 where
   pub held : Held count places sums
   pub before-end : k < count
+
+-- after k steps the plan stands at this place and this sum
+pub record StandsAt (count : ℕ) (places sums : List ℕ) (k place sum : ℕ) : Type 0 where
+  pub held : Held count places sums
+  pub state-is : after start (planIn count places sums) k ≡ record { place = place; paid = sum }
+
+-- the entry of a side
+abbrev pub entryIn : Step → Side → ℕ
+entryIn t Delivery = t .place
+entryIn t Payment = t .sum
+
+-- whether a side is still to be reported
+abbrev pub awaitedIn : Step → Side → Bool
+awaitedIn t Delivery = t .delivery
+awaitedIn t Payment = t .payment
+
+-- the open step: its entries, and which sides are still to be reported
+unfoldable pub openStep : List State → Session → Step
+openStep xs s =
+    record {
+      place = after start xs (suc (s .passed)) .place;
+      sum = after start xs (suc (s .passed)) .paid;
+      delivery = awaited xs s Delivery;
+      payment = awaited xs s Payment;
+    }
+
+-- what holds of every plan and session that have this open step
+pub record OnSessions (t : Step) (P : List State → Session → Type 0) : Type 0 where
+  pub on : (xs : List State) (s : Session) → t ≡ openStep xs s → P xs s

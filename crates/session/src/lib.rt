@@ -3,10 +3,14 @@ ghost use mathlib.Core.Path.{_≡_};
 ghost use Prim.Native.Nat.{_-_};
 ghost use Rattle.exchange.specs.PlanIn.{planIn};
 ghost use Rattle.planning.specs.Check.{holdsCount, aheadOfCheck};
-ghost use Rattle.session.specs.Session.{moves, marked, mark, finishedBy, awaited, fits, done, settle, reportIn, Reports};
+ghost use Rattle.session.specs.Session.{mark, finishedBy, atStep, settle, reportIn, Reports};
 ghost use Rattle.planning.specs.Answer.{checkedOf};
 ghost use Rattle.session.specs.Opening.{Opens};
-ghost use Rattle.session.specs.Code.{entryAfter, Held, Open};
+ghost use Rattle.session.specs.Code.{StandsAt};
+
+mod entries;
+mod step;
+
 use planning::Checked;
 
 // The number of steps passed, and the marks of the open step: what of it is delivered and what is paid.
@@ -45,7 +49,7 @@ pub struct Opened {
 }
 
 // Whether both areas have as many entries as the count says.
-fn holds(count: usize, places: &[u8], sums: &[u8]) -> bool
+pub fn holds(count: usize, places: &[u8], sums: &[u8]) -> bool
     ensures { λ r. ⌜ r ≡ holdsCount count (now (places .entry)) (now (sums .entry)) ⌝ }
 {
     if area::count_u16(places) < count {
@@ -61,39 +65,36 @@ fn answer(reply: Reply, session: Session) -> Reported
     Reported { reply, session }
 }
 
-// The entry of a side after k steps; 0 after none.
-fn entry_after(places: &[u8], sums: &[u8], k: usize, side: Side) -> u32
-    ensures { λ r. ⌜ r ≡ entryAfter (now (places .entry)) (now (sums .entry)) k side ⌝ }
+// The session with these steps passed and no marks.
+fn at_step(passed: usize) -> Session
+    ensures { λ r. ⌜ r ≡ atStep passed ⌝ }
 {
-    if k == 0 {
-        return 0;
-    }
-    match side {
-        Side::Delivery => area::entry_u16(places, k - 1) as u32,
-        Side::Payment => area::entry_u32(sums, k - 1),
+    Session {
+        passed,
+        delivered: false,
+        paid: false,
     }
 }
 
-// Whether a side moves in the step after k steps.
-fn side_moves(count: usize, places: &[u8], sums: &[u8], k: usize, side: Side) -> bool
-    requires { ⌜ Open count (now places) (now sums) k ⌝ }
-    ensures { λ r. ⌜ r ≡ moves (planIn count (now (places .entry)) (now (sums .entry))) k side ⌝ }
+// Passes over the steps from k on that stay at the place and the sum of the step before.
+fn pass_over(count: usize, places: &[u8], sums: &[u8], k: usize, place: u32, sum: u32) -> Session
+    requires { ⌜ StandsAt count (now places) (now sums) k place sum ⌝ }
+    ensures { λ r. ⌜ r ≡ settle (planIn count (now (places .entry)) (now (sums .entry))) (count - k) (atStep k) ⌝ }
 {
-    let before = entry_after(places, sums, k, side);
-    entry_after(places, sums, k + 1, side) != before
+    let mut passed = k;
+    while passed < count {
+        if entries::place_at(places, passed) != place {
+            return at_step(passed);
+        }
+        if entries::sum_at(sums, passed) != sum {
+            return at_step(passed);
+        }
+        passed += 1;
+    }
+    at_step(passed)
 }
 
 impl Session {
-    // Whether the side is marked.
-    fn has_mark(self, side: Side) -> bool
-        ensures { λ r. ⌜ r ≡ marked self side ⌝ }
-    {
-        match side {
-            Side::Delivery => self.delivered,
-            Side::Payment => self.paid,
-        }
-    }
-
     // The session with the side marked.
     fn with_mark(mut self, side: Side) -> Session
         ensures { λ r. ⌜ r ≡ mark self side ⌝ }
@@ -108,55 +109,6 @@ impl Session {
                 self
             }
         }
-    }
-
-    // Whether a side of the open step is still to be reported.
-    fn awaits(self, count: usize, places: &[u8], sums: &[u8], side: Side) -> bool
-        requires { ⌜ Open count (now places) (now sums) (self .passed) ⌝ }
-        ensures { λ r. ⌜ r ≡ awaited (planIn count (now (places .entry)) (now (sums .entry))) self side ⌝ }
-    {
-        if !side_moves(count, places, sums, self.passed, side) {
-            return false;
-        }
-        !self.has_mark(side)
-    }
-
-    // Whether a report fits the open step.
-    fn takes(self, count: usize, places: &[u8], sums: &[u8], side: Side, number: u32) -> bool
-        requires { ⌜ Open count (now places) (now sums) (self .passed) ⌝ }
-        ensures { λ r. ⌜ r ≡ fits (planIn count (now (places .entry)) (now (sums .entry))) self side number ⌝ }
-    {
-        if entry_after(places, sums, self.passed + 1, side) != number {
-            return false;
-        }
-        self.awaits(count, places, sums, side)
-    }
-
-    // Whether nothing of the open step is still to be reported.
-    fn is_done(self, count: usize, places: &[u8], sums: &[u8]) -> bool
-        requires { ⌜ Open count (now places) (now sums) (self .passed) ⌝ }
-        ensures { λ r. ⌜ r ≡ done (planIn count (now (places .entry)) (now (sums .entry))) self ⌝ }
-    {
-        if self.awaits(count, places, sums, Side::Delivery) {
-            return false;
-        }
-        !self.awaits(count, places, sums, Side::Payment)
-    }
-
-    // Passes over the steps that have nothing to report.
-    fn pass_over(mut self, count: usize, places: &[u8], sums: &[u8]) -> Session
-        requires { ⌜ Held count (now places) (now sums) ⌝ }
-        ensures { λ r. ⌜ r ≡ settle (planIn count (now (places .entry)) (now (sums .entry))) (count - self .passed) self ⌝ }
-    {
-        while self.passed < count {
-            if !self.is_done(count, places, sums) {
-                return self;
-            }
-            self.passed += 1;
-            self.delivered = false;
-            self.paid = false;
-        }
-        self
     }
 
     // Whether every step of a plan with this count is passed.
@@ -183,12 +135,17 @@ impl Session {
         if self.finished(count) {
             return answer(Reply::Finished, self);
         }
-        if !self.takes(count, places, sums, side, number) {
+        let passed = self.passed;
+        let step = step::open_step(count, places, sums, self);
+        if !step.takes(side, number) {
             return answer(Reply::Unfit, self);
         }
-        self = self.with_mark(side);
-        self = self.pass_over(count, places, sums);
-        answer(Reply::Taken, self)
+        if !step.ends_by(side) {
+            self = self.with_mark(side);
+            return answer(Reply::Taken, self);
+        }
+        let next = pass_over(count, places, sums, passed + 1, step.place, step.sum);
+        answer(Reply::Taken, next)
     }
 }
 
@@ -197,11 +154,7 @@ pub fn open(bytes: &[u8], count: usize, places: &[u8], sums: &[u8], order: &[u8]
     ensures { λ r. ⌜ Opens (aheadOfCheck (now (bytes .entry)) count (now (places .entry)) (now (sums .entry)) (now (order .entry))) (now (order .entry)) (planIn count (now (places .entry)) (now (sums .entry))) (checkedOf (r .reply)) (r .session) ⌝ }
 {
     let reply = planner::check(bytes, count, places, sums, order);
-    let session = Session {
-        passed: 0,
-        delivered: false,
-        paid: false,
-    };
+    let session = at_step(0);
     match reply {
         Checked::Refused(e) => Opened {
             reply: Checked::Refused(e),
@@ -213,7 +166,7 @@ pub fn open(bytes: &[u8], count: usize, places: &[u8], sums: &[u8], order: &[u8]
         },
         Checked::Accepted => Opened {
             reply: Checked::Accepted,
-            session: session.pass_over(count, places, sums),
+            session: pass_over(count, places, sums, 0, 0, 0),
         },
     }
 }

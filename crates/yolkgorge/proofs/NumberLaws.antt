@@ -1,7 +1,7 @@
--- Answers as numbers. Assumes nothing.
+-- Answers and sides as numbers. Assumes nothing.
 use mathlib.Core.Path.{_≡_, refl, sym, ap, _∙_}
 use mathlib.Core.List.{List, map}
-use Prim.Native.Nat.{ℕ, _+_, _-_, _/_, _^_, _≤_, _<_}
+use Prim.Native.Nat.{ℕ, zero, suc, _+_, _-_, _/_, _^_, _≤_, _<_}
 use native.Mathlib.Omega.{arith}
 use lib.ListN.{length, length-map, length-append, replicate}
 use lib.IntN.{pos, negℤ, subℕ, +ℤ-idl}
@@ -17,7 +17,8 @@ use Rattle.exchange.specs.Deal.{State}
 use Rattle.exchange.specs.PlanIn.{planIn}
 use Rattle.planning.specs.Areas.{Areas}
 use Rattle.planning.specs.Promise.{Plans, Success}
-use Rattle.yolkgorge.specs.Number.{codeOf, CountFits, orShort}
+use Rattle.session.specs.declared.Side.the-variants.{Payment}
+use Rattle.yolkgorge.specs.Number.{codeOf, CountFits, orShort, sideOf}
 
 -- nothing less a number
 pub none-less : (n : ℕ) → subℕ 0 n ≡ negℤ (pos n)
@@ -63,3 +64,8 @@ short-stands A Range = refl
 short-stands A Falling = refl
 short-stands A Trailing = refl
 short-stands A Short = refl
+
+-- a number above 0 names a payment
+pub payment-named : (n : ℕ) → (n ≡ 0 → ⊥) → Payment ≡ sideOf n
+payment-named zero h = absurd (h refl)
+payment-named (suc n) h = refl

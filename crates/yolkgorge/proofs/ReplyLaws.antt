@@ -1,10 +1,10 @@
 -- What the entries on sessions answer, and what they leave in the area. Assumes nothing.
-use mathlib.Core.Path.{_≡_, refl, sym, ap, subst, _∙_}
-use mathlib.Core.Bool.{Bool, true, false, not}
+use mathlib.Core.Path.{_≡_, refl, ap, subst, _∙_}
+use mathlib.Core.Bool.{Bool, true, false, cond, not}
 use mathlib.Core.List.{List}
 use Prim.Native.Nat.{ℕ, zero, suc, _≤_, _<_}
 use native.Mathlib.Omega.{arith}
-use borrow.Author.Tests.{le-leb, lt-leb}
+use borrow.Author.Tests.{le-leb, lt-leb, not-true, not-false}
 use lib.ListN.{length}
 use Rattle.contract.specs.Res.{Res, refused, ok, bind, test}
 use Rattle.contract.specs.Contract.{Contract, numberOf}
@@ -16,7 +16,7 @@ use Rattle.planning.specs.Answer.{checkedOf}
 use Rattle.planning.specs.Check.{holdsCount}
 use Rattle.planning.specs.declared.Checked.{Checked}
 use Rattle.planning.specs.declared.Checked.the-variants.{Refused, Unsafe, Accepted}
-use Rattle.session.specs.Session.{finishedBy, fits, settled, mark, reportOn, reportIn, replied, replyTo, sessionAfter, Reports}
+use Rattle.session.specs.Session.{finishedBy, reportIn, replied, replyTo, sessionAfter, Reports}
 use Rattle.session.specs.Opening.{Opens}
 use Rattle.session.specs.declared.Opened.{Opened}
 use Rattle.session.specs.declared.Reply.{Reply}
@@ -24,8 +24,8 @@ use Rattle.session.specs.declared.Reply.the-variants as reply
 use Rattle.session.specs.declared.Reported.{Reported}
 use Rattle.session.specs.declared.Session.{Session}
 use Rattle.session.specs.declared.Side.{Side}
-use Rattle.session.specs.declared.Side.the-variants.{Delivery, Payment}
-use Rattle.yolkgorge.specs.Number.{codeOf, unfitCode, orShort}
+use Rattle.session.proofs.PlanLaws.{count-held, held-length}
+use Rattle.yolkgorge.specs.Number.{codeOf, orShort, sideOf}
 use Rattle.yolkgorge.specs.SessionBytes.{sessionIn, storedOn}
 use Rattle.yolkgorge.specs.Sessions.{areaAfter, Leaves, OpensNumber, reportNowhere, reportBy, reportFrom}
 
@@ -111,38 +111,21 @@ module _ (count : ℕ) (places sums : List ℕ) (s : List ℕ) (t : Session) (sa
 
 -- ---- a report on no side
 
--- the number of a report's answer where it can't fit
-abbrev unfitOf : Res Session → ℕ
-unfitOf (refused e) = e
-unfitOf (ok t) = 10
+module _ (count : ℕ) (places sums : List ℕ) (s : Session) {r : Bool} (e : r ≡ holdsCount count places sums) where
+  pub nowhere-short : not r ≡ true → 8 ≡ codeOf (reportNowhere count places sums s)
+  unfolding reportNowhere
+  nowhere-short h = rw (← e, not-true r h)
 
-unfit-reply : (said : Res Session) → unfitCode (replyTo said) ≡ unfitOf said
-unfit-reply (refused e) = refl
-unfit-reply (ok t) = refl
-
-fits-or-not : (f g : Bool) (next : Session) → unfitOf (test 11 f (test 10 g (ok next))) ≡ codeOf {A = Session} (test 11 f (refused 10))
-fits-or-not true true next = refl
-fits-or-not true false next = refl
-fits-or-not false g next = refl
-
-unfit-nowhere : (count : ℕ) (places sums : List ℕ) (s : Session) (side : Side) (n : ℕ)
-    → unfitOf (reportIn count places sums s side n) ≡ codeOf (reportNowhere count places sums s)
-unfolding reportIn reportOn reportNowhere
-unfit-nowhere count places sums s side n = go (holdsCount count places sums)
-  where
-    go : (b : Bool) → unfitOf (bind (test 8 b (ok (planIn count places sums))) (λ xs. reportOn xs s side n))
-        ≡ codeOf (bind (test 8 b (ok (planIn count places sums))) (λ xs. test {A = Session} 11 (not (finishedBy (length xs) s)) (refused 10)))
-    go true =
-        fits-or-not (not (finishedBy (length (planIn count places sums)) s)) (fits (planIn count places sums) s side n)
-        (settled (planIn count places sums) (mark s side))
-    go false = refl
-
-pub nowhere-number : (count : ℕ) (places sums : List ℕ) (s : List ℕ) (t : Session) (same : t ≡ sessionIn s) (side : Side) (n r : ℕ) (q : Reported)
-    → Reports (reportIn count places sums t side n) t q → r ≡ unfitCode (replied (q .reply))
-    → r ≡ codeOf (reportNowhere count places sums (sessionIn s))
-nowhere-number count places sums s t same side n r q p f =
-    f ∙ ap unfitCode (p .reply) ∙ unfit-reply (reportIn count places sums t side n) ∙ unfit-nowhere count places sums t side n
-    ∙ ap (λ (z : Session). codeOf (reportNowhere count places sums z)) same
+  pub nowhere-held : not r ≡ false → {t : Session} → t ≡ s → {f : Bool} → f ≡ finishedBy count t → (b : Bool) → f ≡ b
+      → cond b 11 10 ≡ codeOf (reportNowhere count places sums s)
+  unfolding reportNowhere
+  nowhere-held h g i b j =
+      let length-is : length (planIn count places sums) ≡ count = held-length count places sums (count-held count places sums e h) in
+      rw (← e, not-false r h, length-is, ← g, ← i, j) (go b)
+    where
+      go : (b : Bool) → cond b 11 10 ≡ codeOf {A = Session} (test 11 (not b) (refused 10))
+      go true = refl
+      go false = refl
 
 nowhere-leaves : (count : ℕ) (places sums : List ℕ) (s : Session) (area : List ℕ) → area ≡ areaAfter area (reportNowhere count places sums s)
 unfolding reportNowhere
@@ -169,23 +152,22 @@ module _ (s : List ℕ) (count : ℕ) (places sums : List ℕ) (side n r : ℕ) 
     unfolding reportFrom
     from-side = rw (le-leb 10 (length s) h)
 
-    pub from-delivery : {u : List ℕ} → side ≡ 0 → Leaves (reportIn count places sums (sessionIn s) Delivery n) r s u
+    pub from-named : {u : List ℕ} → side ≤ 1 → {b : Side} → b ≡ sideOf side → Leaves (reportIn count places sums (sessionIn s) b n) r s u
         → Leaves (reportFrom s count places sums side n) r s u
-    from-delivery {u} e l =
-        subst (λ (said : Res Session). Leaves said r s u) (ap (λ (k : ℕ). reportBy count places sums (sessionIn s) k n) (sym e) ∙ from-side) l
+    from-named {u} d e l = subst (λ (said : Res Session). Leaves said r s u) (ap (λ (z : Side). reportIn count places sums (sessionIn s) z n) e ∙ go side d ∙ from-side) l
+      where
+        go : (k : ℕ) → k ≤ 1 → reportIn count places sums (sessionIn s) (sideOf k) n ≡ reportBy count places sums (sessionIn s) k n
+        go zero h = refl
+        go (suc zero) h = refl
+        go (suc (suc k)) h = absurd (omega arith)
 
-    pub from-payment : {u : List ℕ} → side ≡ 1 → Leaves (reportIn count places sums (sessionIn s) Payment n) r s u
-        → Leaves (reportFrom s count places sums side n) r s u
-    from-payment {u} e l =
-        subst (λ (said : Res Session). Leaves said r s u) (ap (λ (k : ℕ). reportBy count places sums (sessionIn s) k n) (sym e) ∙ from-side) l
-
-    pub from-nowhere : (side ≡ 0 → ⊥) → (side ≡ 1 → ⊥) → r ≡ codeOf (reportNowhere count places sums (sessionIn s))
+    pub from-nowhere : 1 < side → r ≡ codeOf (reportNowhere count places sums (sessionIn s))
         → Leaves (reportFrom s count places sums side n) r s s
-    from-nowhere d e f =
-        subst (λ (said : Res Session). Leaves said r s s) (go side d e ∙ from-side)
+    from-nowhere d f =
+        subst (λ (said : Res Session). Leaves said r s s) (go side d ∙ from-side)
         (record { number-is = f; area-is = nowhere-leaves count places sums (sessionIn s) s })
       where
-        go : (k : ℕ) → (k ≡ 0 → ⊥) → (k ≡ 1 → ⊥) → reportNowhere count places sums (sessionIn s) ≡ reportBy count places sums (sessionIn s) k n
-        go zero a b = absurd (a refl)
-        go (suc zero) a b = absurd (b refl)
-        go (suc (suc k)) a b = refl
+        go : (k : ℕ) → 1 < k → reportNowhere count places sums (sessionIn s) ≡ reportBy count places sums (sessionIn s) k n
+        go zero h = absurd (omega arith)
+        go (suc zero) h = absurd (omega arith)
+        go (suc (suc k)) h = refl

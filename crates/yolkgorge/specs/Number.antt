@@ -1,9 +1,11 @@
--- Answers as plain numbers.
+-- Answers and sides as plain numbers.
 use mathlib.Core.Bool.{cond}
-use Prim.Native.Nat.{ℕ, _<_, _^_}
+use Prim.Native.Nat.{ℕ, zero, suc, _<_, _^_}
 use lib.Dec.{ltb}
 use lib.IntN.{ℤ, pos, negℤ}
 use Rattle.contract.specs.Res.{Res, refused, ok}
+use Rattle.session.specs.declared.Side.{Side}
+use Rattle.session.specs.declared.Side.the-variants.{Delivery, Payment}
 
 -- planning: the step count, or minus the number of the refusal
 abbrev pub numberFor : Res ℕ → ℤ
@@ -20,12 +22,12 @@ abbrev pub CountFits : Res ℕ → Type 0
 CountFits (refused e) = Unit {0}
 CountFits (ok n) = n < 2 ^ 63
 
--- the number of a reply to a report that can't fit: that of a refusal, else 10
-abbrev pub unfitCode : Res (Unit {0}) → ℕ
-unfitCode (refused e) = e
-unfitCode (ok u) = 10
-
 -- the answer where an area of the caller's is too short: "then 8, then 9 or 12", so the refusals up to 8 stand, and all else is 8
 abbrev pub orShort : {A : Type 0} → Res A → Res A
 orShort (refused e) = refused (cond (ltb e 8) e 8)
 orShort (ok a) = refused 8
+
+-- the side that a number names: 0 is delivery, 1 is payment
+abbrev pub sideOf : ℕ → Side
+sideOf zero = Delivery
+sideOf (suc n) = Payment

@@ -13,8 +13,6 @@ mod numbers;
 mod resting;
 mod words;
 
-use session::Side;
-
 // Plans the deal of a record: the step count, or minus the number of the refusal. Areas of places with two bytes each, sums with four, order
 // bytes and work.
 #[no_mangle]
@@ -81,13 +79,11 @@ pub extern "C" fn yolkgorge_report(
     if state.len() < 10 {
         return 8;
     }
-    if side == 0 {
-        return resting::report_side(state, count, places, sums, Side::Delivery, number);
+    if side > 1 {
+        return resting::report_nowhere(state, count, places, sums);
     }
-    if side == 1 {
-        return resting::report_side(state, count, places, sums, Side::Payment, number);
-    }
-    resting::report_nowhere(state, count, places, sums)
+    let named = numbers::side_of(side);
+    resting::report_side(state, count, places, sums, named, number)
 }
 
 // Whether a session is finished by a plan with this count: 1 or 0.

@@ -1,16 +1,17 @@
-// Answers as plain numbers.
+// Answers and sides as plain numbers.
 ghost use mathlib.Core.Path.{_≡_};
 ghost use Prim.Native.Nat.{_<_, _^_};
 ghost use lib.IntN.{pos, negℤ};
 ghost use Rattle.contract.specs.Contract.{numberOf};
 ghost use Rattle.planning.specs.Answer.{answerOf, boundedOf, checkedOf};
 ghost use Rattle.session.specs.Session.{replied};
-ghost use Rattle.yolkgorge.specs.Number.{numberFor, codeOf, unfitCode, orShort, CountFits};
+ghost use Rattle.yolkgorge.specs.Number.{numberFor, codeOf, orShort, sideOf, CountFits};
 use contract::Refusal;
 use planning::Bounded;
 use planning::Checked;
 use planning::Planned;
 use session::Reply;
+use session::Side;
 
 // The paper's number of a refusal.
 pub(crate) fn refusal_number(e: Refusal) -> u32
@@ -89,18 +90,6 @@ pub(crate) fn reply_number(reply: Reply) -> u32
     }
 }
 
-// The number of a reply to a report that can't fit.
-pub(crate) fn unfit_number(reply: Reply) -> u32
-    ensures { λ r. ⌜ r ≡ unfitCode (replied reply) ⌝ }
-{
-    match reply {
-        Reply::Taken => 10,
-        Reply::Short => 8,
-        Reply::Finished => 11,
-        Reply::Unfit => 10,
-    }
-}
-
 // The number of an answer with bounds where an area of the caller's is too short.
 pub(crate) fn short_bounds(answer: Bounded) -> u32
     ensures { λ r. ⌜ r ≡ codeOf (orShort (boundedOf answer)) ⌝ }
@@ -110,4 +99,14 @@ pub(crate) fn short_bounds(answer: Bounded) -> u32
         Bounded::WrongOrder => 8,
         Bounded::Between(_) => 8,
     }
+}
+
+// The side that a number names: 0 is delivery, 1 is payment.
+pub(crate) fn side_of(number: u32) -> Side
+    ensures { λ r. ⌜ r ≡ sideOf number ⌝ }
+{
+    if number == 0 {
+        return Side::Delivery;
+    }
+    Side::Payment
 }

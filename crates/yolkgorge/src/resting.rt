@@ -82,7 +82,11 @@ pub(crate) fn report_nowhere(state: &[u8], count: usize, places: &[u8], sums: &[
     requires { ⌜ 10 ≤ length (now state) ⌝ }
     ensures { λ r. ⌜ r ≡ codeOf (reportNowhere count (now (places .entry)) (now (sums .entry)) (sessionIn (now (state .entry)))) ⌝ }
 {
-    let reported = take(state).report(count, places, sums, Side::Delivery, 0);
-    let reply = reported.reply;
-    crate::numbers::unfit_number(reply)
+    if !session::holds(count, places, sums) {
+        return 8;
+    }
+    if take(state).finished(count) {
+        return 11;
+    }
+    10
 }

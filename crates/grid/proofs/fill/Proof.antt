@@ -9,28 +9,22 @@ use Rattle.grid.proofs.fill.Statement.{statement}
 use Rattle.grid.proofs.fill.Tie as tie
 
 abbrev Inv-loop : tie.InvT-loop
-Inv-loop units map given cells₀ used₀ rises₀ r₀ cells used rises r = Filling units map (entries 4 given) cells₀ cells used rises r
+Inv-loop units map given cells₀ used₀ r₀ cells used r = Filling units map (entries 4 given) cells₀ cells used r
 
 abbrev μ-loop : tie.MeasureT-loop
-μ-loop units map given cells₀ used₀ rises₀ r₀ cells used rises r = length cells - r
+μ-loop units map given cells₀ used₀ r₀ cells used r = length cells - r
 
 loop-holds : tie.Need-loop-holds Inv-loop μ-loop
 loop-holds c = filling-start _ _ _ _
 
-largest-below-requires : tie.Need-largest-below-requires Inv-loop μ-loop
-largest-below-requires c κs = c .before .loop-test .taken
-
 cell-at-requires : tie.Need-cell-at-requires Inv-loop μ-loop
-cell-at-requires c κs = omega (arith, standing-le (now (c .before .before .before .before .before .before .before .before .args .map)) (c .before .before .before .loop .r), c .before .before .before .loop .inv .used-is)
+cell-at-requires c κs = (omega (arith, standing-le (now (c .before .before .before .before .before .before .before .args .map)) (c .before .before .loop .r), c .before .before .loop .inv .used-is), c .before .loop-test .taken)
 
 mul-cells : tie.Need-mul-cells Inv-loop μ-loop
 mul-cells c = omega arith
 
 slice-write-cells : tie.Need-slice-write-cells Inv-loop μ-loop
 slice-write-cells c = omega arith
-
-still-rising-requires : tie.Need-still-rising-requires Inv-loop μ-loop
-still-rising-requires c κs = tt
 
 add-r : tie.Need-add-r Inv-loop μ-loop
 add-r c = omega arith
@@ -39,15 +33,16 @@ loop-less : tie.Need-loop-less Inv-loop μ-loop
 loop-less c = simp length-set (omega arith)
 
 loop-again : tie.Need-loop-again Inv-loop μ-loop
-loop-again c =
-    filling-turn (c .before .before .before .before .before .loop .inv) (c .before .before .before .before .loop-test .taken)
-    (c .before .before .largest-below .ensures) (c .before .cell-at .ensures .0) (c .before .cell-at .ensures .1) (c .still-rising .ensures)
+loop-again c = filling-turn (c .before .before .before .loop .inv) (c .before .before .loop-test .taken) (c .cell-at .ensures .0) (c .cell-at .ensures .1)
+
+all-rise-requires : tie.Need-all-rise-requires Inv-loop μ-loop
+all-rise-requires c κs = tt
 
 same-length : tie.Need-same-length Inv-loop μ-loop
-same-length c = filling-length (c .before .loop .inv)
+same-length c = filling-length (c .before .before .before .loop .inv)
 
 returns : tie.Need-returns Inv-loop μ-loop
-returns c = filling-done (c .before .loop .inv) (c .loop-test .left)
+returns c = filling-done (c .before .before .before .loop .inv) (c .before .before .loop-test .left) (c .all-rise .ensures)
 
 pub fill-spec : {M : Type 1} → statement M
 fill-spec =
@@ -56,13 +51,12 @@ fill-spec =
     Inv-loop
     μ-loop
     loop-holds
-    largest-below-requires
     cell-at-requires
     mul-cells
     slice-write-cells
-    still-rising-requires
     add-r
     loop-less
     loop-again
+    all-rise-requires
     same-length
     returns)

@@ -1,25 +1,15 @@
 -- `line::plan` meets its contract, by the contracts of its callees. Assumes nothing.
-use mathlib.Core.Path.{_≡_, refl, subst}
-use mathlib.Core.Bool.{true, false}
-use mathlib.Core.List.{List}
-use Prim.Native.Nat.{ℕ}
+use mathlib.Core.Path.{_≡_, refl}
+use mathlib.Core.Bool.{true}
 use native.Mathlib.Omega.{arith}
 use borrow.Author.Needs.{needs}
 use borrow.Author.Tests.{not-true, not-false}
-use Rattle.line.specs.Segments.{fits}
-use Rattle.line.specs.Code.{Sums, Known, Room}
+use Rattle.line.specs.Code.{Known, Room}
 use Rattle.line.specs.Promise.{suits}
-use Rattle.line.specs.declared.Summed.{Summed}
-use Rattle.line.specs.declared.Totals.{Totals}
+use Rattle.line.proofs.PlaceLaws.{sum-known, sum-unfit}
 use Rattle.line.proofs.RunLaws.{suited, unsuited-segments, unsuited-places, unsuited-sums}
 use Rattle.line.proofs.plan.Statement.{statement}
 use Rattle.line.proofs.plan.Tie as tie
-
-unfits : (us cs vs : List ℕ) (r : Summed) → Sums us cs vs r → r ≡ Summed.Unfit → fits us cs vs ≡ false
-unfits us cs vs r s e = subst (Sums us cs vs) e s
-
-known : {us cs vs : List ℕ} (r : Summed) → Sums us cs vs r → (t : Totals) → r ≡ Summed.Fits t → Known us cs vs t
-known {us} {cs} {vs} r s t e = subst (Sums us cs vs) e s
 
 add-up-requires : tie.Need-add-up-requires
 add-up-requires c κs = search needs
@@ -32,16 +22,16 @@ enum-told c = search needs
 
 returns : tie.Need-returns
 returns c =
-    (unsuited-segments _ _ _ _ _ (unfits _ _ _ _ (c .before .before .add-up .ensures) (c .enum-told .given .1)), (refl, refl))
+    (unsuited-segments _ _ _ _ _ (sum-unfit _ _ _ (c .before .before .add-up .ensures) (c .enum-told .given .1)), (refl, refl))
 
 mul-most : tie.Need-mul-most
 mul-most c =
-    let k = known _ (c .before .before .before .before .add-up .ensures) _ (c .before .before .t .given .1) in
+    let k = sum-known _ _ _ (c .before .before .before .before .add-up .ensures) (c .before .before .t .given .1) in
     omega (arith, k .units-are, k .fit .units-fit)
 
 add-most : tie.Need-add-most
 add-most c =
-    let k = known _ (c .before .before .before .before .add-up .ensures) _ (c .before .before .t .given .1) in
+    let k = sum-known _ _ _ (c .before .before .before .before .add-up .ensures) (c .before .before .t .given .1) in
     omega (arith, k .units-are, k .fit .units-fit)
 
 count-u16-requires : tie.Need-count-u16-requires
@@ -52,7 +42,7 @@ same-length c = search needs
 
 returns-2 : tie.Need-returns-2
 returns-2 c =
-    let k = known _ (c .before .before .before .before .before .before .before .add-up .ensures) _ (c .before .before .before .before .before .t .given .1) in
+    let k = sum-known _ _ _ (c .before .before .before .before .before .before .before .add-up .ensures) (c .before .before .before .before .before .t .given .1) in
     (unsuited-places _ _ _ _ _ _ k (c .before .count-u16 .ensures) (c .if1 .taken), (refl, refl))
 
 count-u32-requires : tie.Need-count-u32-requires
@@ -66,13 +56,13 @@ same-length-3 c = search needs
 
 returns-3 : tie.Need-returns-3
 returns-3 c =
-    let k = known _ (c .before .before .before .before .before .before .before .before .before .before .add-up .ensures) _ (c .before .before .before .before .before .before .before .before .t .given .1) in
+    let k = sum-known _ _ _ (c .before .before .before .before .before .before .before .before .before .before .add-up .ensures) (c .before .before .before .before .before .before .before .before .t .given .1) in
     (unsuited-sums _ _ _ _ _ _ k (c .before .count-u32 .ensures) (c .if2 .taken), (refl, refl))
 
 -- past the tests: the segments fit, and there is room
 fitting : (c : tie.Else2) → let a = c .before .before .before .before .before .before .before .before .before .before .before .before .before .before .before .before .args in
     Known (a .units .now) (a .costs .now) (a .values .now) (c .before .before .before .before .before .before .before .before .t .given .0 .0)
-fitting c = known _ (c .before .before .before .before .before .before .before .before .before .before .add-up .ensures) _ (c .before .before .before .before .before .before .before .before .t .given .1)
+fitting c = sum-known _ _ _ (c .before .before .before .before .before .before .before .before .before .before .add-up .ensures) (c .before .before .before .before .before .before .before .before .t .given .1)
 
 suiting : (c : tie.Else2) → let a = c .before .before .before .before .before .before .before .before .before .before .before .before .before .before .before .before .args in
     (suits (a .units .now) (a .costs .now) (a .values .now) (a .places .now) (a .sums .now) ≡ true)

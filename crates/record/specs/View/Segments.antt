@@ -2,10 +2,10 @@
 use mathlib.Core.Path.{_≡_}
 use mathlib.Core.Bool.{Bool, cond}
 use mathlib.Core.List.{List, _++_}
-use Prim.Native.Nat.{ℕ, _+_, _-_, _*_, _≤_}
+use Prim.Native.Nat.{ℕ, zero, suc, _+_, _-_, _*_, _≤_}
 use lib.Dec.{eqb}
 use lib.ListN.{length, replicate}
-use Rattle.area.specs.Entries.{column}
+use Rattle.area.specs.Entries.{num, column}
 use Rattle.contract.specs.Res.{Res, refused, ok, bind, test}
 use Rattle.contract.specs.Contract.{limit, numberOf}
 use Rattle.contract.specs.Segments.{Sums, from, segments, segmentCount, size}
@@ -43,6 +43,17 @@ Reached s e (ok c) = (c .at ≡ e) × ((c .at ≤ length s) × Kept c)
 pub record Steps (s : List ℕ) (e : ℕ) (answer : Res Sums) (r : Step) : Type 0 where
   pub meets : viewStep r ≡ answer
   pub reached : Reached s e (viewStep r)
+
+-- n units of a ladder lie within the record, after totals within their limits
+pub record Whole (s : List ℕ) (n : ℕ) (c : Sums) : Type 0 where
+  pub few : n ≤ 1000
+  pub within : c .at + n * 8 ≤ length s
+  pub kept : Kept c
+
+-- the totals after n units of a ladder, whatever the limits
+unfoldable pub lifted : List ℕ → ℕ → Sums → Sums
+lifted s zero c = c
+lifted s (suc n) c = lifted s n (record { at = c .at + 8; units = c .units; cost = c .cost + num 4 s (c .at); value = c .value + num 4 s (c .at + 4) })
 
 -- the most segments
 abbrev pub most : Bool → ℕ

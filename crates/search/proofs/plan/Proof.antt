@@ -95,7 +95,7 @@ walk-requires c κs =
     let x = c .before .before .before .before .before .before .before .before .before .before .before .before .before .before .before .before .before .before .before .before .before .before .args in
     let f : Fitted (record { sides = x .sides; rows = r .result }) (now (x .units)) (now (x .costs)) (now (x .values)) (now (x .places)) (now (x .sums)) (now (x .work)) (m .result) =
     fitted (m .ensures) (c .before .before .before .before .before .before .before .before .before .before .before .if1 .left) (r .ensures) in
-    can-walk f (n .ensures) (c .before .before .before .if3 .left) (n .kept .1 .1 .1 .1 .1 .0)
+    can-walk f (n .ensures) (c .before .before .before .if3 .left) (omega (arith, c .before .before .before .before .before .before .before .before .before .before .before .before .before .before .before .before .before .before .before .before .before .before .good)) (n .kept .1 .1 .1 .1 .1 .0)
 
 clear-u16-requires : tie.Need-clear-u16-requires
 clear-u16-requires c κs = search needs
@@ -126,7 +126,7 @@ returns-4 c =
       suits-yes (now (x .units)) (now (x .costs)) (now (x .values)) (now (x .places)) (now (x .sums)) (now (x .work)) (f .suit),
       (
         planned-success f (n .ensures) (c .before .before .before .before .before .before .before .before .before .before .before .before .before .before .before .before .before .before .before .before .if3 .left) (omega (arith, c .before .before .before .before .before .before .before .before .before .before .before .before .before .before .before .before .before .before .before .before .before .before .before .before .before .before .before .before .before .before .before .before .before .before .before .before .before .before .before .good)) (sym (c .before .before .before .before .before .before .before .before .before .before .before .before .before .before .before .before .before .before .before .before .before .before .before .before .before .before .starts .ensures) ∙ not-false (c .before .before .before .before .before .before .before .before .before .before .before .before .before .before .before .before .before .before .before .before .before .before .before .before .before .before .starts .result) (c .before .before .before .before .before .before .before .before .before .before .before .before .before .before .before .before .before .before .before .before .before .before .before .before .before .if2 .left))
-            (c .before .before .before .before .before .before .before .before .before .before .before .before .before .before .before .before .walk .ensures .0) (c .before .before .before .before .before .before .before .before .before .before .before .before .before .before .before .before .walk .ensures .1) (c .before .before .before .before .before .before .before .before .before .before .clear-u16 .ensures) (c .before .before .before .before .before .before .clear-u32 .ensures) r,
+            (c .before .before .before .before .before .before .before .before .before .before .before .before .before .before .before .before .walk .ensures) (c .before .before .before .before .before .before .before .before .before .before .clear-u16 .ensures) (c .before .before .before .before .before .before .clear-u32 .ensures) r,
         rw (← n .kept .1 .1 .1 .1 .1 .0) (c .before .before .clear3 .ensures),
       ),
     )

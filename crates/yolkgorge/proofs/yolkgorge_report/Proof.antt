@@ -1,6 +1,6 @@
 -- `yolkgorge::yolkgorge_report` meets its contract, by the contracts of its callees. Assumes nothing.
 use denote.Ref.{now}
-use Rattle.yolkgorge.proofs.ReplyLaws.{from-short, from-delivery, from-payment, from-nowhere}
+use Rattle.yolkgorge.proofs.ReplyLaws.{from-short, from-named, from-nowhere}
 use borrow.Author.Needs.{needs}
 use Rattle.yolkgorge.proofs.yolkgorge_report.Statement.{statement}
 use Rattle.yolkgorge.proofs.yolkgorge_report.Tie as tie
@@ -10,19 +10,22 @@ returns c =
     let x = c .before .before .before .before .args in
     from-short (now (x .state)) (x .count) (now (x .places)) (now (x .sums)) (x .side) (x .number) 8 (c .if1 .taken)
 
-report-side-requires : tie.Need-report-side-requires
-report-side-requires c κs = search needs
+report-nowhere-requires : tie.Need-report-nowhere-requires
+report-nowhere-requires c κs = search needs
 
 same-length : tie.Need-same-length
 same-length c = search needs
 
 returns-2 : tie.Need-returns-2
 returns-2 c =
-    let x = c .before .before .before .before .before .before .before .before .before .args in
-    from-delivery (now (x .state)) (x .count) (now (x .places)) (now (x .sums)) (x .side) (x .number) (c .before .before .report-side .result) (c .before .before .before .before .before .if1 .left) (c .before .before .before .before .if2 .taken) (c .before .before .report-side .ensures)
+    let x = c .before .before .before .before .before .before .before .args in
+    from-nowhere (now (x .state)) (x .count) (now (x .places)) (now (x .sums)) (x .side) (x .number) (c .report-nowhere .result) (c .before .before .before .if1 .left) (c .before .before .if2 .taken) (c .report-nowhere .ensures)
 
-report-side-requires-2 : tie.Need-report-side-requires-2
-report-side-requires-2 c κs = search needs
+side-of-requires : tie.Need-side-of-requires
+side-of-requires c κs = search needs
+
+report-side-requires : tie.Need-report-side-requires
+report-side-requires c κs = search needs
 
 same-length-2 : tie.Need-same-length-2
 same-length-2 c = search needs
@@ -30,30 +33,17 @@ same-length-2 c = search needs
 returns-3 : tie.Need-returns-3
 returns-3 c =
     let x = c .before .before .before .before .before .before .before .before .before .before .args in
-    from-payment (now (x .state)) (x .count) (now (x .places)) (now (x .sums)) (x .side) (x .number) (c .before .before .report-side2 .result) (c .before .before .before .before .before .before .if1 .left) (c .before .before .before .before .if3 .taken) (c .before .before .report-side2 .ensures)
-
-report-nowhere-requires : tie.Need-report-nowhere-requires
-report-nowhere-requires c κs = search needs
-
-same-length-3 : tie.Need-same-length-3
-same-length-3 c = search needs
-
-returns-4 : tie.Need-returns-4
-returns-4 c =
-    let x = c .before .before .before .before .before .before .before .before .args in
-    from-nowhere (now (x .state)) (x .count) (now (x .places)) (now (x .sums)) (x .side) (x .number) (c .report-nowhere .result) (c .before .before .before .before .if1 .left) (c .before .before .before .if2 .left) (c .before .before .if3 .left) (c .report-nowhere .ensures)
+    from-named (now (x .state)) (x .count) (now (x .places)) (now (x .sums)) (x .side) (x .number) (c .before .before .report-side .result) (c .before .before .before .before .before .before .if1 .left) (c .before .before .before .before .before .if2 .left) (c .before .before .before .before .side-of .ensures) (c .before .before .report-side .ensures)
 
 pub yolkgorge-report-spec : {M : Type 1} → statement M
 yolkgorge-report-spec =
     tie.close
     (tie.spec
     returns
-    report-side-requires
+    report-nowhere-requires
     same-length
     returns-2
-    report-side-requires-2
+    side-of-requires
+    report-side-requires
     same-length-2
-    returns-3
-    report-nowhere-requires
-    same-length-3
-    returns-4)
+    returns-3)

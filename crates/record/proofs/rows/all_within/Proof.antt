@@ -1,55 +1,59 @@
 use mathlib.Core.Path.{_≡_, refl, sym, _∙_}
-use Prim.Native.Nat.{_-_, _≤_}
+use mathlib.Core.Bool.{_&&_, and-true}
+use Prim.Native.Nat.{_-_, _≤_, _<_, _/_}
 use native.Mathlib.Omega.{arith}
-use borrow.Author.Needs.{needs}
 use denote.Ref.{now}
 use lib.ListN.{length, drop}
 use Rattle.area.specs.Entries.{entries}
-use Rattle.area.proofs.Laws.{entries-length}
+use Rattle.area.proofs.Laws.{entries-length, entries-at}
 use Rattle.contract.specs.Table.{allWithin}
-use Rattle.record.proofs.TestLaws.{within-over, within-turn, within-end}
+use Rattle.record.proofs.TestLaws.{within-both, within-end}
 use Rattle.record.proofs.rows.all_within.Statement.{statement}
 use Rattle.record.proofs.rows.all_within.Tie as tie
 
 abbrev Inv-loop : tie.InvT-loop
-Inv-loop cells k₀ k = (k ≤ length (entries 4 cells)) × (allWithin (drop k (entries 4 cells)) ≡ allWithin (entries 4 cells))
+Inv-loop cells n within₀ k₀ within k = (k ≤ n) × ((within && allWithin (drop k (entries 4 cells))) ≡ allWithin (entries 4 cells))
 
 abbrev μ-loop : tie.MeasureT-loop
-μ-loop cells k₀ k = length (entries 4 cells) - k
-
-loop-holds : tie.Need-loop-holds Inv-loop μ-loop
-loop-holds c = (omega arith, refl)
+μ-loop cells n within₀ k₀ within k = n - k
 
 count-u32-requires : tie.Need-count-u32-requires Inv-loop μ-loop
 count-u32-requires c κs = tt
 
-entry-u32-requires : tie.Need-entry-u32-requires Inv-loop μ-loop
-entry-u32-requires c κs = tt
+loop-holds : tie.Need-loop-holds Inv-loop μ-loop
+loop-holds c = (omega arith, refl)
 
-cast-if2 : tie.Need-cast-if2 Inv-loop μ-loop
-cast-if2 c = search needs
+mul-number : tie.Need-mul-number Inv-loop μ-loop
+mul-number c =
+    let n : c .before .loop .k < length (now (c .before .before .before .before .args .cells)) / 4 = rw (c .before .before .count-u32 .ensures, entries-length) at (c .loop-test .taken) in
+    omega arith
 
-returns : tie.Need-returns Inv-loop μ-loop
-returns c =
-    let xs = entries 4 (now (c .before .before .before .before .before .before .args .cells)) in
-    sym (within-over xs (c .before .before .before .before .loop .k) (rw (c .before .before .before .count-u32 .ensures) at (c .before .before .if1 .taken)) (rw (c .before .entry-u32 .ensures) at (c .if2 .taken))) ∙ c .before .before .before .before .loop .inv .1
+number-requires : tie.Need-number-requires Inv-loop μ-loop
+number-requires c κs =
+    let n : c .before .loop .k < length (now (c .before .before .before .before .args .cells)) / 4 = rw (c .before .before .count-u32 .ensures, entries-length) at (c .loop-test .taken) in
+    omega arith
+
+still-within-requires : tie.Need-still-within-requires Inv-loop μ-loop
+still-within-requires c κs = tt
 
 add-k : tie.Need-add-k Inv-loop μ-loop
-add-k c = omega (arith, c .before .before .before .count-u32 .ensures, entries-length 4 (now (c .before .before .before .before .before .before .args .cells)))
+add-k c =
+    let n : c .before .before .before .loop .k < length (now (c .before .before .before .before .before .before .args .cells)) / 4 = rw (c .before .before .before .before .count-u32 .ensures, entries-length) at (c .before .before .loop-test .taken) in
+    omega arith
 
 loop-less : tie.Need-loop-less Inv-loop μ-loop
-loop-less c = omega (arith, c .before .before .before .count-u32 .ensures)
+loop-less c = omega arith
 
 loop-again : tie.Need-loop-again Inv-loop μ-loop
 loop-again c =
-    let xs = entries 4 (now (c .before .before .before .before .before .before .args .cells)) in
-    let h = rw (c .before .before .before .count-u32 .ensures) at (c .before .before .if1 .taken) in
-    (omega (arith, h), sym (within-turn xs (c .before .before .before .before .loop .k) h (rw (c .before .entry-u32 .ensures) at (c .if2 .left))) ∙ c .before .before .before .before .loop .inv .1)
+    let n : c .before .before .before .loop .k < length (now (c .before .before .before .before .before .before .args .cells)) / 4 = rw (c .before .before .before .before .count-u32 .ensures, entries-length) at (c .before .before .loop-test .taken) in
+    let h = rw (c .before .before .before .before .count-u32 .ensures) at (c .before .before .loop-test .taken) in
+    (omega arith, within-both (entries 4 (now (c .before .before .before .before .before .before .args .cells))) (c .before .before .before .loop .k) h (c .before .before .before .loop .within) (c .still-within .ensures ∙ rw (c .before .number .ensures, entries-at 4 (now (c .before .before .before .before .before .before .args .cells)) (c .before .before .before .loop .k) n)) ∙ c .before .before .before .loop .inv .1)
 
-returns-2 : tie.Need-returns-2 Inv-loop μ-loop
-returns-2 c =
-    let xs = entries 4 (now (c .before .before .before .before .args .cells)) in
-    sym (within-end xs (c .before .before .loop .k) (omega (arith, c .before .count-u32 .ensures))) ∙ c .before .before .loop .inv .1
+returns : tie.Need-returns Inv-loop μ-loop
+returns c =
+    let h = rw (c .before .before .count-u32 .ensures) at (c .loop-test .left) in
+    sym (rw (within-end (entries 4 (now (c .before .before .before .before .args .cells))) (c .before .loop .k) h) (and-true (c .before .loop .within))) ∙ c .before .loop .inv .1
 
 pub all-within-spec : {M : Type 1} → statement M
 all-within-spec =
@@ -57,12 +61,12 @@ all-within-spec =
     (tie.spec
     Inv-loop
     μ-loop
-    loop-holds
     count-u32-requires
-    entry-u32-requires
-    cast-if2
-    returns
+    loop-holds
+    mul-number
+    number-requires
+    still-within-requires
     add-k
     loop-less
     loop-again
-    returns-2)
+    returns)

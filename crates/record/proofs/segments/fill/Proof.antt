@@ -4,7 +4,6 @@ use native.Mathlib.Nat.{zero-mul}
 use native.Mathlib.Omega.{arith}
 use denote.Ref.{now}
 use Rattle.area.specs.Entries.{num}
-use Rattle.area.proofs.Laws.{numAt-room}
 use Rattle.record.specs.View.Spaced.{Filling}
 use Rattle.record.proofs.Laws.{spaced-next, filling-none, filling-more, next-index}
 use Rattle.record.proofs.segments.fill.Statement.{statement}
@@ -19,8 +18,8 @@ abbrev μ-loop : tie.MeasureT-loop
 loop-holds : tie.Need-loop-holds Inv-loop μ-loop
 loop-holds c = (zero-le, (omega (arith, zero-mul (c .before .before .before .args .step)), (filling-none 4 _ _ _ _, filling-none 4 _ _ _ _)))
 
-num-u32-requires : tie.Need-num-u32-requires Inv-loop μ-loop
-num-u32-requires c κs = tt
+number-requires : tie.Need-number-requires Inv-loop μ-loop
+number-requires c κs = omega (arith, spaced-next (c .before .loop .k) (c .before .before .before .before .before .pre .0) (c .loop-test .taken), c .before .before .before .before .before .pre .0 .apart)
 
 mul-costs : tie.Need-mul-costs Inv-loop μ-loop
 mul-costs c = omega arith
@@ -28,11 +27,11 @@ mul-costs c = omega arith
 slice-write-costs : tie.Need-slice-write-costs Inv-loop μ-loop
 slice-write-costs c = omega arith
 
-add-num-u32 : tie.Need-add-num-u32 Inv-loop μ-loop
-add-num-u32 c = omega (arith, spaced-next (c .before .before .loop .k) (c .before .before .before .before .before .before .pre .0) (c .before .loop-test .taken), c .before .before .before .before .before .before .pre .0 .apart)
+add-number : tie.Need-add-number Inv-loop μ-loop
+add-number c = omega (arith, spaced-next (c .before .before .loop .k) (c .before .before .before .before .before .before .pre .0) (c .before .loop-test .taken), c .before .before .before .before .before .before .pre .0 .apart)
 
-num-u32-requires-2 : tie.Need-num-u32-requires-2 Inv-loop μ-loop
-num-u32-requires-2 c κs = tt
+number-requires-2 : tie.Need-number-requires-2 Inv-loop μ-loop
+number-requires-2 c κs = omega (arith, spaced-next (c .before .before .loop .k) (c .before .before .before .before .before .before .pre .0) (c .before .loop-test .taken), c .before .before .before .before .before .before .pre .0 .apart)
 
 mul-values : tie.Need-mul-values Inv-loop μ-loop
 mul-values c = omega arith
@@ -53,11 +52,9 @@ loop-again : tie.Need-loop-again Inv-loop μ-loop
 loop-again c =
     let a = c .before .before .before .before .before .before .before .args in
     let l = c .before .before .before .loop in
-    let s = now (a .s) in
-    let near = spaced-next (l .k) (c .before .before .before .before .before .before .before .pre .0) (c .before .before .loop-test .taken) in
     let e : l .i + 4 ≡ a .at + 4 + l .k * a .step = omega arith in
-    let cost : c .before .num-u32 .result ≡ num 4 s (a .at + l .k * a .step) = c .before .num-u32 .ensures ∙ numAt-room 4 s (l .i) (omega (arith, near, c .before .before .before .before .before .before .before .pre .0 .apart)) ∙ ap (num 4 s) (l .inv .1 .0) in
-    let value : c .num-u322 .result ≡ num 4 s (a .at + 4 + l .k * a .step) = c .num-u322 .ensures ∙ numAt-room 4 s (l .i + 4) (omega (arith, near, c .before .before .before .before .before .before .before .pre .0 .apart)) ∙ ap (num 4 s) e in
+    let cost = c .before .number .ensures ∙ ap (num 4 (now (a .s))) (l .inv .1 .0) in
+    let value = c .number2 .ensures ∙ ap (num 4 (now (a .s))) e in
     (omega arith, (next-index (a .at) (a .step) (l .k) (l .inv .1 .0), (filling-more (l .inv .1 .1 .0) (omega arith) cost, filling-more (l .inv .1 .1 .1) (omega arith) value)))
 
 same-length : tie.Need-same-length Inv-loop μ-loop
@@ -78,11 +75,11 @@ fill-spec =
     Inv-loop
     μ-loop
     loop-holds
-    num-u32-requires
+    number-requires
     mul-costs
     slice-write-costs
-    add-num-u32
-    num-u32-requires-2
+    add-number
+    number-requires-2
     mul-values
     slice-write-values
     add-i

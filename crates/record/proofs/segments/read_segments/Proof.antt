@@ -1,5 +1,4 @@
 use mathlib.Core.Path.{_∙_}
-use native.Mathlib.Omega.{arith}
 use borrow.Author.Needs.{needs}
 use borrow.Author.Tests.{le-leb, lt-leb}
 use denote.Ref.{now}
@@ -10,7 +9,7 @@ use Rattle.record.specs.View.Head.{headOf}
 use Rattle.record.specs.View.Segments.{viewRun}
 use Rattle.record.proofs.Laws.{asked}
 use Rattle.record.proofs.AnswerLaws.{refuses, accepts}
-use Rattle.record.proofs.SegmentLaws.{said-stopped, said-found, spaced-segments, spaced-units, few-segments, skip-le, segment-header}
+use Rattle.record.proofs.SegmentLaws.{said-stopped, said-found, spaced-units, few-segments, segment-header}
 use Rattle.record.proofs.segments.read_segments.Statement.{statement}
 use Rattle.record.proofs.segments.read_segments.Tie as tie
 
@@ -38,31 +37,20 @@ refuse-requires-3 c κs = search needs
 returns-2 : tie.Need-returns-2
 returns-2 c = refuses _ _ Short (said-found _ _ _ _ _ _ (asked viewRun (c .before .before .before .before .before .before .find-segments .ensures .meets) (c .before .before .before .before .p .given .1)) ∙ simp (le-leb _ _ (c .before .before .if1 .left), lt-leb _ _ (c .before .if2 .taken))) (c .refuse3 .ensures)
 
-size-of-requires : tie.Need-size-of-requires
-size-of-requires c κs = search needs
-
-skip-of-requires : tie.Need-skip-of-requires
-skip-of-requires c κs = search needs
-
-add-fill : tie.Need-add-fill
-add-fill c =
+fill-segments-requires : tie.Need-fill-segments-requires
+fill-segments-requires c κs =
     let m = rw (c .before .before .before .before .before .p .given .1) at (c .before .before .before .before .before .before .before .find-segments .ensures .inside) in
-    omega (arith, skip-le (c .before .before .before .before .before .before .before .before .before .before .before .args .priced))
-
-fill-requires : tie.Need-fill-requires
-fill-requires c κs =
-    let m = rw (c .before .before .before .before .before .before .before .p .given .1) at (c .before .before .before .before .before .before .before .before .before .find-segments .ensures .inside) in
-    (rw (c .before .before .before .size-of .ensures, c .before .before .skip-of .ensures) (spaced-segments (c .before .before .before .before .before .before .before .before .before .before .before .before .before .args .priced) _ (c .before .before .before .before .before .before .before .p .given .0 .0 .first) _ (m .0)), (c .before .before .before .before .before .if1 .left, c .before .before .before .before .if2 .left))
+    (m .0, (c .before .before .before .if1 .left, c .before .before .if2 .left))
 
 segment-units-requires : tie.Need-segment-units-requires
 segment-units-requires c κs =
-    let m = rw (c .before .before .before .before .before .before .before .before .before .before .before .before .p .given .1) at (c .before .before .before .before .before .before .before .before .before .before .before .before .before .before .find-segments .ensures .inside) in
-    (spaced-units (c .before .before .before .before .before .before .before .before .before .before .before .before .before .before .before .before .before .before .args .priced) _ _ _ (m .0), m .1)
+    let m = rw (c .before .before .before .before .before .before .before .before .before .before .p .given .1) at (c .before .before .before .before .before .before .before .before .before .before .before .before .find-segments .ensures .inside) in
+    (spaced-units (c .before .before .before .before .before .before .before .before .before .before .before .before .before .before .before .before .args .priced) _ _ _ (m .0), m .1)
 
 accept-requires : tie.Need-accept-requires
 accept-requires c κs =
-    let m = rw (c .before .before .before .before .before .before .before .before .before .before .before .before .before .p .given .1) at (c .before .before .before .before .before .before .before .before .before .before .before .before .before .before .before .find-segments .ensures .inside) in
-    (c .before .before .before .before .before .before .before .before .before .before .before .before .before .before .before .before .before .before .before .pre .small, few-segments (c .before .before .before .before .before .before .before .before .before .before .before .before .before .before .before .before .before .before .before .args .priced) _ (m .1))
+    let m = rw (c .before .before .before .before .before .before .before .before .before .before .before .p .given .1) at (c .before .before .before .before .before .before .before .before .before .before .before .before .before .find-segments .ensures .inside) in
+    (c .before .before .before .before .before .before .before .before .before .before .before .before .before .before .before .before .before .pre .small, few-segments (c .before .before .before .before .before .before .before .before .before .before .before .before .before .before .before .before .before .args .priced) _ (m .1))
 
 returns-3 : tie.Need-returns-3
 returns-3 c = refuses _ _ _ (said-stopped _ _ _ _ _ (asked viewRun (c .before .before .before .before .find-segments .ensures .meets) (c .before .before .e .given .1))) (c .refuse .ensures)
@@ -76,13 +64,13 @@ same-length-2 c = search needs
 returns-4 : tie.Need-returns-4
 unfolding segmentContract
 returns-4 c =
-    let a = c .before .before .before .before .before .before .before .before .before .before .before .before .before .before .before .before .before .before .before .before .args in
-    let r = c .before .before .before .before .before .before .before .before .before .before .before .before .before .before .p .given .0 .0 in
+    let a = c .before .before .before .before .before .before .before .before .before .before .before .before .before .before .before .before .before .before .args in
+    let r = c .before .before .before .before .before .before .before .before .before .before .before .before .p .given .0 .0 in
     let k = segmentContract (a .priced) (now (a .s)) (headOf (a .h)) (r .count) (r .first) in
-    let f = rw (c .before .before .before .before .before .before .before .before .before .skip-of .ensures, c .before .before .before .before .before .before .before .before .before .before .size-of .ensures) at (c .before .before .before .before .before .before .fill .ensures) in
+    let f = c .before .before .before .before .before .before .fill-segments .ensures in
     accepts k _ _
-    (said-found _ _ _ _ _ _ (asked viewRun (c .before .before .before .before .before .before .before .before .before .before .before .before .before .before .before .before .find-segments .ensures .meets) (c .before .before .before .before .before .before .before .before .before .before .before .before .before .before .p .given .1)) ∙ simp (le-leb _ _ (c .before .before .before .before .before .before .before .before .before .before .before .before .if1 .left), le-leb _ _ (c .before .before .before .before .before .before .before .before .before .before .before .if2 .left)))
-    (c .accept .ensures ∙ rw (c .before .segment-units .ensures) (segment-header (a .priced) (now (a .s)) (headOf (a .h)) (r .count) (r .first) (c .before .before .before .before .before .before .before .before .before .before .before .before .before .before .before .before .before .before .before .before .pre .form-is)))
+    (said-found _ _ _ _ _ _ (asked viewRun (c .before .before .before .before .before .before .before .before .before .before .before .before .before .before .find-segments .ensures .meets) (c .before .before .before .before .before .before .before .before .before .before .before .before .p .given .1)) ∙ simp (le-leb _ _ (c .before .before .before .before .before .before .before .before .before .before .if1 .left), le-leb _ _ (c .before .before .before .before .before .before .before .before .before .if2 .left)))
+    (c .accept .ensures ∙ rw (c .before .segment-units .ensures) (segment-header (a .priced) (now (a .s)) (headOf (a .h)) (r .count) (r .first) (c .before .before .before .before .before .before .before .before .before .before .before .before .before .before .before .before .before .before .pre .form-is)))
     (rw column-length (f .0))
     (rw column-length (f .1))
 
@@ -98,10 +86,7 @@ read-segments-spec =
     returns
     refuse-requires-3
     returns-2
-    size-of-requires
-    skip-of-requires
-    add-fill
-    fill-requires
+    fill-segments-requires
     segment-units-requires
     accept-requires
     returns-3

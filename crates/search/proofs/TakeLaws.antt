@@ -1,0 +1,66 @@
+-- The loops at the end of a step: the offers are taken over, and the rows noted in the work area. Assumes nothing.
+use mathlib.Core.Path.{_≡_, refl, sym, ap, _∙_}
+use mathlib.Core.Bool.{cond}
+use mathlib.Core.List.{List}
+use Prim.Native.Nat.{ℕ, _+_, _≤_, _<_}
+use native.Mathlib.Decide.{ℕ-discrete, decLt}
+use native.Mathlib.Omega.{arith}
+use borrow.Author.Tests.{lt-ltb, le-ltb}
+use lib.Dec.{ltb}
+use lib.ListN.{length, getD, set, length-set}
+use lib.Seq.{getD-set-same, getD-set-other}
+use Rattle.search.specs.Layers.{mark, Listed, Listing, Taken, TakenOver, Noted}
+
+-- ---- the loop that takes the offers over
+
+pub taken-none : (next list sums : List ℕ) → length sums ≡ 128 → Taken next list sums sums 0
+taken-none next list sums h = record { sums-long = h; sum-is = λ i l. absurd (omega arith); kept = λ a n. refl }
+
+pub taken-more : (next list sums₀ sums : List ℕ) (i a v : ℕ) → Taken next list sums₀ sums i → a ≡ getD list i 0 → a < 128 → v ≡ getD next a 0
+    → Taken next list sums₀ (set sums a v) (i + 1)
+taken-more next list sums₀ sums i a v h e l f =
+    record {
+      sums-long = length-set sums a v ∙ h .sums-long;
+      sum-is = λ k m. at k m (ℕ-discrete (getD list k 0) a);
+      kept = λ b n. getD-set-other sums a b v 0 (λ q. n i (omega arith) (sym e ∙ sym q)) ∙ h .kept b (λ k m. n k (omega arith));
+    }
+  where
+    at : (k : ℕ) → k < i + 1 → Dec (getD list k 0 ≡ a) → getD (set sums a v) (getD list k 0) 0 ≡ getD next (getD list k 0) 0
+    at k m (yes q) = rw (q, ← f) (getD-set-same sums a v 0 (omega (arith, h .sums-long)))
+    at k m (no n) = getD-set-other sums a (getD list k 0) v 0 n ∙ h .sum-is k (old (ℕ-discrete k i))
+      where
+        old : Dec (k ≡ i) → k < i
+        old (yes q) = absurd (n (ap (λ (z : ℕ). getD list z 0) q ∙ sym e))
+        old (no z) = omega arith
+
+-- the rows of the list are those with an offer
+pub taken-over : {next list sums sums′ : List ℕ} {n rows : ℕ} → Listing next list n rows → Taken next list sums sums′ n → TakenOver next sums sums′ list n rows
+taken-over {next} {list} {sums} {sums′} {n} {rows} h t =
+    record { sums-long = t .sums-long; sum-is = λ a l. go a l (decLt (getD next a 0) mark); lists = h .lists; listed = h .listed }
+  where
+    go : (a : ℕ) → a < rows → Dec (getD next a 0 < mark) → getD sums′ a 0 ≡ cond (ltb (getD next a 0) mark) (getD next a 0) (getD sums a 0)
+    go a l (yes m) =
+        let x = h .lists a l m in
+        rw (lt-ltb (getD next a 0) mark m, ← x .entry) (t .sum-is (x .index) (x .below))
+    go a l (no m) =
+        rw (le-ltb (getD next a 0) mark (omega arith)) (t .kept a (λ i k q. m (rw (← q) (h .taken i k))))
+
+pub listed-few : {list : List ℕ} {n rows : ℕ} → Listed list n rows → rows ≤ 128 → Listed list n 128
+listed-few h l = record { few = h .few; in-rows = λ i m. omega (arith, h .in-rows i m) }
+
+-- ---- the loop that notes the rows in the work area
+
+pub noted-none : (named : List ℕ) (at : ℕ) (work : List ℕ) → Noted named at work work 0
+noted-none named at work = record { byte-is = λ a h. absurd (omega arith); kept = λ k h. refl }
+
+pub noted-more : (named : List ℕ) (at : ℕ) (old new : List ℕ) (i v : ℕ) → Noted named at old new i → at + i < length new → v ≡ getD named i 0
+    → Noted named at old (set new (at + i) v) (i + 1)
+noted-more named at old new i v f h e =
+    record {
+      byte-is = λ a l. go a l (ℕ-discrete a i);
+      kept = λ k l. getD-set-other new (at + i) k v 0 (λ q. omega arith) ∙ f .kept k l;
+    }
+  where
+    go : (a : ℕ) → a < i + 1 → Dec (a ≡ i) → getD (set new (at + i) v) (at + a) 0 ≡ getD named a 0
+    go a l (yes q) = rw (q, ← e) (getD-set-same new (at + i) v 0 h)
+    go a l (no n) = getD-set-other new (at + i) (at + a) v 0 (λ q. n (omega arith)) ∙ f .byte-is a (omega arith)

@@ -1,0 +1,125 @@
+use borrow.Author.Needs.{needs}
+use mathlib.Core.Path.{_≡_, refl, _∙_}
+use Prim.Native.Nat.{_-_, _≤_}
+use native.Mathlib.Omega.{arith}
+use denote.Ref.{now}
+use lib.ListN.{length}
+use Rattle.search.specs.Layers.{working}
+use Rattle.search.proofs.LimitLaws.{priced}
+use Rattle.search.proofs.CountLaws.{Counting, all-rows, can-step, table-agrees, counting-start, counting-found, counting-settled, counting-next, counting-none, layer-room, most-room}
+use Rattle.search.proofs.layers.count_steps.Statement.{statement}
+use Rattle.search.proofs.layers.count_steps.Tie as tie
+
+abbrev Inv-loop : tie.InvT-loop
+Inv-loop t units costs values most work₀ held caps floors sums₀ front₀ at₀ j₀ work sums front at j = (j ≤ most) × (length work ≡ length work₀) × Counting (working t units costs values) (t .rows) work sums (front .named) (front .changed) (front .count) at j
+
+abbrev μ-loop : tie.MeasureT-loop
+μ-loop t units costs values most work₀ held caps floors sums₀ front₀ at₀ j₀ work sums front at j = most - j
+
+all-units-requires : tie.Need-all-units-requires Inv-loop μ-loop
+all-units-requires c κs = search needs
+
+all-caps-requires : tie.Need-all-caps-requires Inv-loop μ-loop
+all-caps-requires c κs = search needs
+
+all-floors-requires : tie.Need-all-floors-requires Inv-loop μ-loop
+all-floors-requires c κs = search needs
+
+first-sums-requires : tie.Need-first-sums-requires Inv-loop μ-loop
+first-sums-requires c κs = search needs
+
+first-frontier-requires : tie.Need-first-frontier-requires Inv-loop μ-loop
+first-frontier-requires c κs = search needs
+
+loop-holds : tie.Need-loop-holds Inv-loop μ-loop
+loop-holds c =
+    let x = c .before .before .before .before .before .before .before .before .before .args in
+    (omega arith, refl, rw (c .before .first-sums .ensures, c .first-frontier .ensures .0, c .first-frontier .ensures .1, c .first-frontier .ensures .2) (counting-start (working (x .t) (now (x .units)) (now (x .costs)) (now (x .values))) (x .t .rows) (all-rows (x .t) (now (x .units)) (c .before .before .before .before .before .before .before .before .before .pre .0)) (c .before .before .before .before .before .before .before .before .before .pre .0 .some) (c .before .before .before .before .before .before .before .before .before .pre .0 .few) (priced (x .t) (now (x .units)) (now (x .costs)) (now (x .values)) (omega (arith, c .before .before .before .before .before .before .before .before .before .good))) (now (x .work))))
+
+step-requires : tie.Need-step-requires Inv-loop μ-loop
+step-requires c κs =
+    let x = c .before .before .before .before .before .before .before .before .before .before .before .before .before .before .before .args in
+    let l = c .before .before .before .before .before .loop in
+    can-step (x .t) (now (x .units)) (now (x .costs)) (now (x .values)) (c .before .before .before .before .before .before .before .before .before .before .before .before .before .before .before .pre .0) (c .before .before .before .before .before .before .before .before .before .before .all-units .ensures) (l .inv .2)
+
+note-requires : tie.Need-note-requires Inv-loop μ-loop
+note-requires c κs = (c .before .before .before .before .before .before .before .before .before .before .before .before .before .before .before .before .before .before .before .pre .0 .few, rw (c .before .before .before .before .before .before .before .before .before .loop .inv .1) (layer-room _ _ _ (c .before .before .before .before .before .before .before .before .before .before .before .before .before .before .before .before .before .before .before .args .most) _ (c .before .before .before .before .before .before .before .before .before .loop .inv .2 .placed) (c .before .before .before .before .before .before .before .before .loop-test .taken) (c .before .before .before .before .before .before .before .before .before .before .before .before .before .before .before .before .before .before .before .pre .1)))
+
+add-j : tie.Need-add-j Inv-loop μ-loop
+add-j c = omega (arith, c .before .before .before .before .before .before .before .before .before .before .before .loop-test .taken, most-room (c .before .before .before .before .before .before .before .before .before .before .before .before .before .before .before .before .before .before .before .before .before .before .args .t .rows) (c .before .before .before .before .before .before .before .before .before .before .before .before .before .before .before .before .before .before .before .before .before .before .args .most) (length (now (c .before .before .before .before .before .before .before .before .before .before .before .before .before .before .before .before .before .before .before .before .before .before .args .work))) (c .before .before .before .before .before .before .before .before .before .before .before .before .before .before .before .before .before .before .before .before .before .before .pre .0 .some) (c .before .before .before .before .before .before .before .before .before .before .before .before .before .before .before .before .before .before .before .before .before .before .pre .1), c .before .before .before .before .before .before .before .before .before .before .before .before .before .before .before .before .before .before .before .before .before .before .good)
+
+array-read-if1 : tie.Need-array-read-if1 Inv-loop μ-loop
+array-read-if1 c = omega (arith, c .before .before .before .before .before .before .step .ensures .over .sums-long)
+
+same-length : tie.Need-same-length Inv-loop μ-loop
+same-length c = c .before .before .before .note .kept .1 .1 .0 ∙ c .before .before .before .before .before .before .before .before .before .before .before .before .before .loop .inv .1
+
+returns : tie.Need-returns Inv-loop μ-loop
+returns c =
+    let x = c .before .before .before .before .before .before .before .before .before .before .before .before .before .before .before .before .before .before .before .before .before .before .before .args in
+    let l = c .before .before .before .before .before .before .before .before .before .before .before .before .before .loop in
+    counting-found (working (x .t) (now (x .units)) (now (x .costs)) (now (x .values))) (x .t .rows) (all-rows (x .t) (now (x .units)) (c .before .before .before .before .before .before .before .before .before .before .before .before .before .before .before .before .before .before .before .before .before .before .before .pre .0)) (c .before .before .before .before .before .before .before .before .before .before .before .before .before .before .before .before .before .before .before .before .before .before .before .pre .0 .some) (c .before .before .before .before .before .before .before .before .before .before .before .before .before .before .before .before .before .before .before .before .before .before .before .pre .0 .few) (table-agrees (x .t) (now (x .units)) (now (x .costs)) (now (x .values)) (c .before .before .before .before .before .before .before .before .before .before .before .before .before .before .before .before .before .all-caps .result) (c .before .before .before .before .before .before .before .before .before .before .before .before .before .before .before .before .all-floors .result) (c .before .before .before .before .before .before .before .before .before .before .before .before .before .before .before .before .before .before .before .before .before .before .before .pre .0) (c .before .before .before .before .before .before .before .before .before .before .before .before .before .before .before .before .before .all-caps .ensures) (c .before .before .before .before .before .before .before .before .before .before .before .before .before .before .before .before .all-floors .ensures)) (l .inv .2) (c .before .before .before .before .before .before .before .step .ensures) (c .before .before .before .note .ensures) (x .most) (c .if1 .taken) (c .before .before .before .before .before .before .before .before .before .before .before .before .loop-test .taken)
+
+add-result : tie.Need-add-result Inv-loop μ-loop
+add-result c = omega (arith, most-room (c .before .before .before .before .before .before .before .before .before .before .before .before .before .before .before .before .before .before .before .before .before .before .before .before .before .args .t .rows) (c .before .before .before .before .before .before .before .before .before .before .before .before .before .before .before .before .before .before .before .before .before .before .before .before .before .args .most) (length (now (c .before .before .before .before .before .before .before .before .before .before .before .before .before .before .before .before .before .before .before .before .before .before .before .before .before .args .work))) (c .before .before .before .before .before .before .before .before .before .before .before .before .before .before .before .before .before .before .before .before .before .before .before .before .before .pre .0 .some) (c .before .before .before .before .before .before .before .before .before .before .before .before .before .before .before .before .before .before .before .before .before .before .before .before .before .pre .1), c .before .before .before .before .before .before .before .before .before .before .before .before .before .before .before .before .before .before .before .before .before .before .before .before .before .good)
+
+same-length-2 : tie.Need-same-length-2 Inv-loop μ-loop
+same-length-2 c = c .before .before .before .before .before .note .kept .1 .1 .0 ∙ c .before .before .before .before .before .before .before .before .before .before .before .before .before .before .before .loop .inv .1
+
+returns-2 : tie.Need-returns-2 Inv-loop μ-loop
+returns-2 c =
+    let x = c .before .before .before .before .before .before .before .before .before .before .before .before .before .before .before .before .before .before .before .before .before .before .before .before .before .args in
+    let l = c .before .before .before .before .before .before .before .before .before .before .before .before .before .before .before .loop in
+    counting-settled (working (x .t) (now (x .units)) (now (x .costs)) (now (x .values))) (x .t .rows) (all-rows (x .t) (now (x .units)) (c .before .before .before .before .before .before .before .before .before .before .before .before .before .before .before .before .before .before .before .before .before .before .before .before .before .pre .0)) (c .before .before .before .before .before .before .before .before .before .before .before .before .before .before .before .before .before .before .before .before .before .before .before .before .before .pre .0 .some) (c .before .before .before .before .before .before .before .before .before .before .before .before .before .before .before .before .before .before .before .before .before .before .before .before .before .pre .0 .few) (table-agrees (x .t) (now (x .units)) (now (x .costs)) (now (x .values)) (c .before .before .before .before .before .before .before .before .before .before .before .before .before .before .before .before .before .before .before .all-caps .result) (c .before .before .before .before .before .before .before .before .before .before .before .before .before .before .before .before .before .before .all-floors .result) (c .before .before .before .before .before .before .before .before .before .before .before .before .before .before .before .before .before .before .before .before .before .before .before .before .before .pre .0) (c .before .before .before .before .before .before .before .before .before .before .before .before .before .before .before .before .before .before .before .all-caps .ensures) (c .before .before .before .before .before .before .before .before .before .before .before .before .before .before .before .before .before .before .all-floors .ensures)) (l .inv .2) (c .before .before .before .before .before .before .before .before .before .step .ensures) (c .before .before .before .before .before .note .ensures) (x .most) (c .if2 .taken)
+
+add-at : tie.Need-add-at Inv-loop μ-loop
+add-at c = omega (arith, layer-room _ _ _ (c .before .before .before .before .before .before .before .before .before .before .before .before .before .before .before .before .before .before .before .before .before .before .before .before .before .before .args .most) _ (c .before .before .before .before .before .before .before .before .before .before .before .before .before .before .before .before .loop .inv .2 .placed) (c .before .before .before .before .before .before .before .before .before .before .before .before .before .before .before .loop-test .taken) (c .before .before .before .before .before .before .before .before .before .before .before .before .before .before .before .before .before .before .before .before .before .before .before .before .before .before .pre .1), c .before .before .before .before .before .before .before .before .before .before .before .before .before .before .before .before .before .before .before .before .before .before .before .before .before .before .good)
+
+loop-less : tie.Need-loop-less Inv-loop μ-loop
+loop-less c = search needs
+
+loop-again : tie.Need-loop-again Inv-loop μ-loop
+loop-again c =
+    let x = c .before .before .before .before .before .before .before .before .before .before .before .before .before .before .before .before .before .before .before .before .before .before .before .before .before .before .args in
+    let l = c .before .before .before .before .before .before .before .before .before .before .before .before .before .before .before .before .loop in
+    (omega (arith, c .before .before .before .before .before .before .before .before .before .before .before .before .before .before .before .loop-test .taken), c .before .before .before .before .before .before .note .kept .1 .1 .0 ∙ l .inv .1, counting-next (working (x .t) (now (x .units)) (now (x .costs)) (now (x .values))) (x .t .rows) (all-rows (x .t) (now (x .units)) (c .before .before .before .before .before .before .before .before .before .before .before .before .before .before .before .before .before .before .before .before .before .before .before .before .before .before .pre .0)) (c .before .before .before .before .before .before .before .before .before .before .before .before .before .before .before .before .before .before .before .before .before .before .before .before .before .before .pre .0 .some) (c .before .before .before .before .before .before .before .before .before .before .before .before .before .before .before .before .before .before .before .before .before .before .before .before .before .before .pre .0 .few) (table-agrees (x .t) (now (x .units)) (now (x .costs)) (now (x .values)) (c .before .before .before .before .before .before .before .before .before .before .before .before .before .before .before .before .before .before .before .before .all-caps .result) (c .before .before .before .before .before .before .before .before .before .before .before .before .before .before .before .before .before .before .before .all-floors .result) (c .before .before .before .before .before .before .before .before .before .before .before .before .before .before .before .before .before .before .before .before .before .before .before .before .before .before .pre .0) (c .before .before .before .before .before .before .before .before .before .before .before .before .before .before .before .before .before .before .before .before .all-caps .ensures) (c .before .before .before .before .before .before .before .before .before .before .before .before .before .before .before .before .before .before .before .all-floors .ensures)) (l .inv .2) (c .before .before .before .before .before .before .before .before .before .before .step .ensures) (c .before .before .before .before .before .before .note .ensures) (c .before .before .before .if1 .left))
+
+add-result-2 : tie.Need-add-result-2 Inv-loop μ-loop
+add-result-2 c = omega (arith, most-room (c .before .before .before .before .before .before .before .before .before .before .before .args .t .rows) (c .before .before .before .before .before .before .before .before .before .before .before .args .most) (length (now (c .before .before .before .before .before .before .before .before .before .before .before .args .work))) (c .before .before .before .before .before .before .before .before .before .before .before .pre .0 .some) (c .before .before .before .before .before .before .before .before .before .before .before .pre .1), c .before .before .before .before .before .before .before .before .before .before .before .good)
+
+same-length-3 : tie.Need-same-length-3 Inv-loop μ-loop
+same-length-3 c = c .before .loop .inv .1
+
+returns-3 : tie.Need-returns-3 Inv-loop μ-loop
+returns-3 c =
+    let x = c .before .before .before .before .before .before .before .before .before .before .before .args in
+    let l = c .before .loop in
+    counting-none (working (x .t) (now (x .units)) (now (x .costs)) (now (x .values))) (x .t .rows) (all-rows (x .t) (now (x .units)) (c .before .before .before .before .before .before .before .before .before .before .before .pre .0)) (c .before .before .before .before .before .before .before .before .before .before .before .pre .0 .some) (c .before .before .before .before .before .before .before .before .before .before .before .pre .0 .few) (x .most) (l .inv .2) (c .loop-test .left)
+
+pub count-steps-spec : {M : Type 1} → statement M
+count-steps-spec =
+    tie.close
+    (tie.spec
+    Inv-loop
+    μ-loop
+    all-units-requires
+    all-caps-requires
+    all-floors-requires
+    first-sums-requires
+    first-frontier-requires
+    loop-holds
+    step-requires
+    note-requires
+    add-j
+    array-read-if1
+    same-length
+    returns
+    add-result
+    same-length-2
+    returns-2
+    add-at
+    loop-less
+    loop-again
+    add-result-2
+    same-length-3
+    returns-3)

@@ -1,0 +1,87 @@
+use borrow.Author.Needs.{needs}
+use native.Mathlib.Omega.{arith}
+use denote.Ref.{now}
+use Rattle.search.specs.Layers.{working}
+use Rattle.search.proofs.WalkLaws.{Going, going-start, going-room, going-on, going-done}
+use Rattle.search.proofs.walk.walk.Statement.{statement}
+use Rattle.search.proofs.walk.walk.Tie as tie
+
+abbrev Inv-loop : tie.InvT-loop
+Inv-loop t units costs values work steps places₀ sums₀ left₀ k₀ a₀ paid₀ places sums left k a paid = Going (working t units costs values) (t .rows) steps places₀ places sums₀ sums left k a paid
+
+abbrev μ-loop : tie.MeasureT-loop
+μ-loop t units costs values work steps places₀ sums₀ left₀ k₀ a₀ paid₀ places sums left k a paid = left
+
+loop-holds : tie.Need-loop-holds Inv-loop μ-loop
+loop-holds c =
+    let x = c .before .before .before .before .before .before .args in
+    going-start (x .t) (now (x .units)) (now (x .costs)) (now (x .values)) (now (x .work)) (x .steps) (now (x .places)) (now (x .sums)) (c .before .before .before .before .before .before .pre)
+
+sub-left : tie.Need-sub-left Inv-loop μ-loop
+sub-left c = search needs
+
+wide32-requires : tie.Need-wide32-requires Inv-loop μ-loop
+wide32-requires c κs = search needs
+
+next-row-requires : tie.Need-next-row-requires Inv-loop μ-loop
+next-row-requires c κs =
+    let x = c .before .before .before .before .before .before .before .before .before .args in
+    let l = c .before .before .loop in
+    (c .before .before .before .before .before .before .before .before .before .pre .good, l .inv .in-rows, going-room (x .t) (now (x .units)) (now (x .costs)) (now (x .values)) (now (x .work)) (x .steps) (now (x .places)) (now (x .sums)) (c .before .before .before .before .before .before .before .before .before .pre) (l .inv) (c .before .loop-test .taken))
+
+cap-requires : tie.Need-cap-requires Inv-loop μ-loop
+cap-requires c κs = omega (arith, c .before .before .before .before .before .before .before .before .before .before .pre .good .some)
+
+cast-store-u16 : tie.Need-cast-store-u16 Inv-loop μ-loop
+cast-store-u16 c = omega (arith, c .before .before .next-row .ensures .0, c .before .before .before .before .before .before .before .before .before .before .before .before .pre .good .few)
+
+store-u16-requires : tie.Need-store-u16-requires Inv-loop μ-loop
+store-u16-requires c κs = search needs
+
+store-u32-requires : tie.Need-store-u32-requires Inv-loop μ-loop
+store-u32-requires c κs = search needs
+
+add-k : tie.Need-add-k Inv-loop μ-loop
+add-k c = omega (arith, c .before .before .before .before .before .before .before .before .before .before .before .before .loop .inv .counts, c .before .before .before .before .before .before .before .before .before .before .before .loop-test .taken)
+
+loop-less : tie.Need-loop-less Inv-loop μ-loop
+loop-less c = search needs
+
+loop-again : tie.Need-loop-again Inv-loop μ-loop
+loop-again c =
+    let x = c .before .before .before .before .before .before .before .before .before .before .before .before .before .before .before .before .before .before .before .args in
+    let l = c .before .before .before .before .before .before .before .before .before .before .before .before .loop in
+    going-on (x .t) (now (x .units)) (now (x .costs)) (now (x .values)) (now (x .work)) (x .steps) (now (x .places)) (now (x .sums)) (c .before .before .before .before .before .before .before .before .before .before .before .before .before .before .before .before .before .before .before .pre) (l .inv) (c .before .before .before .before .before .before .before .before .before .before .before .loop-test .taken) (c .before .before .before .before .before .before .before .before .before .before .wide32 .ensures .0) (c .before .before .before .before .before .before .before .before .before .next-row .ensures .0) (c .before .before .before .before .before .before .before .before .before .next-row .ensures .1) (c .before .before .before .before .before .before .before .before .cap .ensures) (c .before .before .before .before .before .before .store-u16 .ensures) (c .before .before .store-u32 .ensures)
+
+same-length : tie.Need-same-length Inv-loop μ-loop
+same-length c = c .before .loop .inv .places-long
+
+same-length-2 : tie.Need-same-length-2 Inv-loop μ-loop
+same-length-2 c = c .before .loop .inv .sums-long
+
+returns : tie.Need-returns Inv-loop μ-loop
+returns c =
+    let x = c .before .before .before .before .before .before .before .before .args in
+    let l = c .before .loop in
+    going-done (x .t) (now (x .units)) (now (x .costs)) (now (x .values)) (now (x .work)) (x .steps) (now (x .places)) (now (x .sums)) (c .before .before .before .before .before .before .before .before .pre) (l .inv) (omega (arith, c .loop-test .left))
+
+pub walk-spec : {M : Type 1} → statement M
+walk-spec =
+    tie.close
+    (tie.spec
+    Inv-loop
+    μ-loop
+    loop-holds
+    sub-left
+    wide32-requires
+    next-row-requires
+    cap-requires
+    cast-store-u16
+    store-u16-requires
+    store-u32-requires
+    add-k
+    loop-less
+    loop-again
+    same-length
+    same-length-2
+    returns)

@@ -1,0 +1,257 @@
+// The search, backwards: the least sum paid at each row from which the end is reached, step by step.
+ghost use mathlib.Core.Path.{_≡_};
+ghost use Prim.Native.Nat.{_+_, _-_, _*_, _<_, _≤_};
+ghost use lib.ListN.{length, set, replicate};
+ghost use Rattle.grid.specs.Rows.{rowsOf};
+ghost use Rattle.exchange.specs.Forms.{holdsRow};
+ghost use Rattle.search.specs.Units.{RowUnits};
+ghost use Rattle.search.specs.Layers.{working, Table, mark, layer, takes, offerTo, offered, Offers, Listed, Listing, RowListed, Taken, CanStep, Stepped, Noted, Counted};
+use super::Terms;
+use super::UNREACHED;
+use super::limits::all_caps;
+use super::limits::all_floors;
+use super::limits::wide32;
+use super::units::all_units;
+use super::units::row_holds;
+
+// For each row the row whose floor its sum is, 255 for none; and the rows whose sum has changed, the first `count` of a list.
+struct Frontier {
+    named: [u8; 128],
+    changed: [u8; 128],
+    count: usize,
+}
+
+fn wide8(x: u8) -> usize
+    ensures { λ r. ⌜ r ≡ x ⌝ }
+{
+    x as usize
+}
+
+// Whether row a takes the floor of row b: row b can follow row a, and its floor is below the sum of row a and below the best offer so far.
+fn takes_offer(
+    units: &[u16],
+    held: &[u8; 512],
+    a: usize,
+    b: usize,
+    need: u64,
+    cap: u64,
+    floor: u64,
+    sum: u64,
+    best: u64,
+) -> bool
+    requires { ⌜ RowUnits (now units) (now held) (rowsOf (now units)) × (a < rowsOf (now units)) × (b < rowsOf (now units)) ⌝ }
+    ensures { λ r. ⌜ r ≡ takes (holdsRow (now (units .entry)) a b) need cap floor sum best ⌝ }
+{
+    if cap < need {
+        return false;
+    }
+    if sum <= floor {
+        return false;
+    }
+    if best <= floor {
+        return false;
+    }
+    row_holds(units, held, a, b)
+}
+
+// Lists row a, unless its best offer is below the mark: then the list has it already. The answer is the length of the list.
+fn list_row(list: &mut [u8; 128], n: usize, a: usize, best: u64) -> usize
+    requires { ⌜ (a < 128) × ((mark ≤ best) → n < 128) × (n ≤ 128) ⌝ }
+    ensures { λ r. ⌜ RowListed (now (list .entry)) n a best (now (list .exit)) r ⌝ }
+{
+    if best < UNREACHED {
+        return n;
+    }
+    list[n] = a as u8;
+    n + 1
+}
+
+// Row b offers its floor to the rows up to it; no row after it is held by it. Lists the rows that take their first offer, behind the n
+// that the list has. The answer is the length of the list.
+fn offer(
+    units: &[u16],
+    held: &[u8; 512],
+    caps: &[u64; 128],
+    floors: &[u64; 128],
+    sums: &[u64; 128],
+    b: usize,
+    next: &mut [u64; 128],
+    named: &mut [u8; 128],
+    list: &mut [u8; 128],
+    n: usize,
+) -> usize
+    requires { ⌜ RowUnits (now units) (now held) (rowsOf (now units)) × (b < rowsOf (now units)) × (length (now named) ≡ 128) × Listing (now next) (now list) n (rowsOf (now units)) ⌝ }
+    ensures { λ r. ⌜ Offers (offerTo (layer (now (units .entry)) (now (caps .entry)) (now (floors .entry)) (now (sums .entry))) b) (rowsOf (now (units .entry))) (now (next .entry)) (now (named .entry)) (now (next .exit)) (now (named .exit)) × Listing (now (next .exit)) (now (list .exit)) r (rowsOf (now (units .entry))) ⌝ }
+{
+    let need = sums[b];
+    let floor = floors[b];
+    let mut count = n;
+    let mut a: usize = 0;
+    while a <= b {
+        if takes_offer(units, held, a, b, need, caps[a], floor, sums[a], next[a]) {
+            count = list_row(list, count, a, next[a]);
+            next[a] = floor;
+            named[a] = b as u8;
+        }
+        a += 1;
+    }
+    count
+}
+
+// Each of the changed rows, the first n of their list, offers its floor. Lists the rows that take an offer; the answer is their number.
+fn offer_all(
+    units: &[u16],
+    held: &[u8; 512],
+    caps: &[u64; 128],
+    floors: &[u64; 128],
+    sums: &[u64; 128],
+    changed: &[u8; 128],
+    n: usize,
+    next: &mut [u64; 128],
+    named: &mut [u8; 128],
+    list: &mut [u8; 128],
+) -> usize
+    requires { ⌜ RowUnits (now units) (now held) (rowsOf (now units)) × Listed (now changed) n (rowsOf (now units)) × (length (now named) ≡ 128) × Listing (now next) (now list) 0 (rowsOf (now units)) ⌝ }
+    ensures { λ r. ⌜ Offers (offered (layer (now (units .entry)) (now (caps .entry)) (now (floors .entry)) (now (sums .entry))) (now (changed .entry)) n) (rowsOf (now (units .entry))) (now (next .entry)) (now (named .entry)) (now (next .exit)) (now (named .exit)) × Listing (now (next .exit)) (now (list .exit)) r (rowsOf (now (units .entry))) ⌝ }
+{
+    let mut count: usize = 0;
+    let mut i: usize = 0;
+    while i < n {
+        let b = wide8(changed[i]);
+        count = offer(units, held, caps, floors, sums, b, next, named, list, count);
+        i += 1;
+    }
+    count
+}
+
+// The offers of the first n rows of the list become their sums.
+fn take_over(next: &[u64; 128], list: &[u8; 128], n: usize, sums: &mut [u64; 128])
+    requires { ⌜ Listed (now list) n 128 × (length (now sums) ≡ 128) ⌝ }
+    ensures { λ _. ⌜ Taken (now (next .entry)) (now (list .entry)) (now (sums .entry)) (now (sums .exit)) n ⌝ }
+{
+    let mut i: usize = 0;
+    while i < n {
+        let a = wide8(list[i]);
+        sums[a] = next[a];
+        i += 1;
+    }
+}
+
+// Notes in the work area, from `at` on, for each row the row whose floor its sum is.
+fn note(rows: usize, named: &[u8; 128], work: &mut [u8], at: usize)
+    requires { ⌜ (rows ≤ 128) × (at + rows ≤ length (now work)) ⌝ }
+    ensures { λ _. ⌜ Noted (now (named .entry)) at (now (work .entry)) (now (work .exit)) rows ⌝ }
+{
+    let mut a: usize = 0;
+    while a < rows {
+        work[at + a] = named[a];
+        a += 1;
+    }
+}
+
+// The sums of no step: the price at the last row.
+fn first_sums(t: Terms) -> [u64; 128]
+    requires { ⌜ (1 < t .rows) × (t .rows ≤ 128) ⌝ }
+    ensures { λ r. ⌜ r ≡ set (replicate 128 mark) (t .rows - 1) (t .sides .price) ⌝ }
+{
+    let mut sums = [UNREACHED; 128];
+    let last = t.rows - 1;
+    sums[last] = wide32(t.sides.price);
+    sums
+}
+
+// The number of a row at one place of an array, and 255 at the others.
+fn one_row(row: usize, place: usize) -> [u8; 128]
+    requires { ⌜ (row < 128) × (place < 128) ⌝ }
+    ensures { λ r. ⌜ r ≡ set (replicate 128 255) place row ⌝ }
+{
+    let mut rows = [255u8; 128];
+    rows[place] = row as u8;
+    rows
+}
+
+// The frontier before the first step: the last row, which names itself.
+fn first_frontier(rows: usize) -> Frontier
+    requires { ⌜ (1 < rows) × (rows ≤ 128) ⌝ }
+    ensures { λ r. ⌜ (r .named ≡ set (replicate 128 255) (rows - 1) (rows - 1)) × (r .changed ≡ set (replicate 128 255) 0 (rows - 1)) × (r .count ≡ 1) ⌝ }
+{
+    let named = one_row(rows - 1, rows - 1);
+    let changed = one_row(rows - 1, 0);
+    Frontier {
+        named,
+        changed,
+        count: 1,
+    }
+}
+
+// One step of the search: the changed rows offer their floors, and the best offers become the sums.
+fn step(
+    rows: usize,
+    units: &[u16],
+    held: &[u8; 512],
+    caps: &[u64; 128],
+    floors: &[u64; 128],
+    sums: &mut [u64; 128],
+    old: Frontier,
+) -> Frontier
+    requires { ⌜ CanStep (now units) (now held) rows (now sums) (old .named) (old .changed) (old .count) ⌝ }
+    ensures { λ r. ⌜ Stepped (layer (now (units .entry)) (now (caps .entry)) (now (floors .entry)) (now (sums .entry))) rows (old .named) (old .changed) (old .count) (now (sums .exit)) (r .named) (r .changed) (r .count) ⌝ }
+{
+    let mut next = [UNREACHED; 128];
+    let mut named = old.named;
+    let mut list = [0u8; 128];
+    let changed = old.changed;
+    let count = offer_all(
+        units,
+        held,
+        caps,
+        floors,
+        sums,
+        &changed,
+        old.count,
+        &mut next,
+        &mut named,
+        &mut list,
+    );
+    take_over(&next, &list, count, sums);
+    Frontier {
+        named,
+        changed: list,
+        count,
+    }
+}
+
+// The fewest steps of a plan, and most + 1 where there is none. The work area then names the rows of each layer up to that count.
+pub(crate) fn count_steps(
+    t: Terms,
+    units: &[u16],
+    costs: &[u32],
+    values: &[u32],
+    most: usize,
+    work: &mut [u8],
+) -> usize
+    requires { ⌜ Table t (now units) × (t .rows * (most + 1) ≤ length (now work)) ⌝ }
+    ensures { λ r. ⌜ Counted (working t (now (units .entry)) (now (costs .entry)) (now (values .entry))) (t .rows) most (now (work .exit)) r ⌝ }
+{
+    let held = all_units(units, t.rows);
+    let caps = all_caps(t, costs);
+    let floors = all_floors(t, values);
+    let mut sums = first_sums(t);
+    let mut front = first_frontier(t.rows);
+    let mut at = t.rows;
+    let mut j: usize = 0;
+    while j < most {
+        front = step(t.rows, units, &held, &caps, &floors, &mut sums, front);
+        let named = front.named;
+        note(t.rows, &named, work, at);
+        j += 1;
+        if sums[0] == 0 {
+            return j;
+        }
+        if front.count == 0 {
+            return most + 1;
+        }
+        at += t.rows;
+    }
+    most + 1
+}
