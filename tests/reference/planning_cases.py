@@ -52,14 +52,8 @@ class CheckCase:
 
 
 @dataclass(frozen=True)
-class SessionCase:
+class SessionCase(CheckCase):
     """Reports one after the other, from the session given, or from the one that opening the plan hands back."""
-    kind: str
-    record: bytes
-    count: int
-    places: bytes
-    sums: bytes
-    order: bytes
     session: tuple | None
     reports: tuple  # of (side, number)
 

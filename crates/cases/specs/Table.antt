@@ -1,4 +1,4 @@
--- The paper's cases A to K, and what they do not touch: more questions to F's record, and a case L.
+-- The paper's cases A to K, and what they do not touch: more questions to the records of A and F, and a case L.
 use mathlib.Core.List.{List, [], _∷_, _++_}
 use Prim.Native.Nat.{ℕ}
 use lib.IntN.{pos, negℤ}

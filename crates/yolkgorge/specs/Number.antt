@@ -27,7 +27,7 @@ abbrev pub orShort : {A : Type 0} → Res A → Res A
 orShort (refused e) = refused (cond (ltb e 8) e 8)
 orShort (ok a) = refused 8
 
--- the side that a number names: 0 is delivery, 1 is payment
+-- the side that the number 0 or 1 names: delivery or payment; no other number is asked for
 abbrev pub sideOf : ℕ → Side
 sideOf zero = Delivery
 sideOf (suc n) = Payment

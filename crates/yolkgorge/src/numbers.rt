@@ -101,7 +101,7 @@ pub(crate) fn short_bounds(answer: Bounded) -> u32
     }
 }
 
-// The side that a number names: 0 is delivery, 1 is payment.
+// The side that the number 0 or 1 names: delivery or payment.
 pub(crate) fn side_of(number: u32) -> Side
     ensures { λ r. ⌜ r ≡ sideOf number ⌝ }
 {
