@@ -8,8 +8,8 @@ use native.Mathlib.Nat.{add-assoc, add-comm, add-zero, zero-add, add-suc, suc-ad
 use native.Mathlib.Decide.{ℕ-discrete}
 use native.Mathlib.Numerals.{add-one}
 use native.Mathlib.Omega.{arith}
-use lib.ListN.{length, getD, set, take, drop, replicate, length-append, length-set, List·getD-append, List·getD-eq-default, take-append-drop, length-replicate, replicate-append-replicate}
-use lib.Seq.{ext-getD, getD-set-same, getD-set-other, sets, getD-drop, drop-append-add, drop-append-seam, sets-eq, drop-at, take-at, length-take-le, length-front, append-snoc, set-split, set-out, take-all, drop-length}
+use lib.ListN.{length, getD, set, take, drop, replicate, length-append, length-set, List·getD-append, List·getD-eq-default, take-append-drop, length-replicate, replicate-append-replicate, drop-of-length-le}
+use lib.Seq.{ext-getD, getD-set-same, getD-set-other, sets, getD-take, getD-drop, drop-append-add, drop-append-seam, sets-eq, drop-at, take-at, length-take-le, length-front, append-snoc, set-split, set-out, take-all, drop-length}
 use borrow.Rule.Slice.PartMut.{putMid, midOf, mid-len, post-is}
 use borrow.Author.Tests.{le-leb, lt-leb}
 use Rattle.area.specs.Entries.{num, digits, upTo, entries, remainder, numAt, putAt, column, Stored, Cleared}
@@ -153,6 +153,17 @@ pub entries-at : (w : ℕ) (s : List ℕ) (k : ℕ) → k < length s / w → get
 unfolding entries
 entries-at w s k h = upTo-at (length s / w) (λ j. num w s (j * w)) k h
 
+-- a number read in a part of exactly its bytes is the area's own
+pub part-num : (w : ℕ) (s : List ℕ) (i : ℕ) → i + w ≤ length s → numAt w (midOf i (i + w - i) s) 0 ≡ num w s i
+part-num w s i h =
+    let size : length (midOf i (i + w - i) s) ≡ i + w - i = mid-len i (i + w) s h in
+    numAt-room w (midOf i (i + w - i) s) 0 (omega arith)
+    ∙ num-ext w (midOf i (i + w - i) s) s 0 i (λ k l. rw zero-add (getD-take (i + w - i) (drop i s) k 0 (omega arith) ∙ getD-drop i s k 0))
+
+-- an entry read in its part
+pub entry-read : (w : ℕ) (s : List ℕ) (k : ℕ) → 0 < w → k < length s / w → numAt w (midOf (k * w) (k * w + w - k * w) s) 0 ≡ getD (entries w s) k 0
+entry-read w s k pos h = part-num w s (k * w) (omega (arith, le-div-iff-mul-le pos .0 h)) ∙ sym (entries-at w s k h)
+
 pub entries-past : (w : ℕ) (s : List ℕ) (k : ℕ) → length s / w ≤ k → getD (entries w s) k 0 ≡ 0
 entries-past w s k h = List·getD-eq-default (entries w s) 0 (rw entries-length h)
 
@@ -240,23 +251,28 @@ replaced w n m s b pos h e = record { entries-new = new; remainder-kept = kept; 
     same : length t ≡ length s
     same = length-front s (take (n * w) s ++ b) ((n + m) * w) (size ∙ sym (front-length w (n + m) s pos h))
 
-pub stored-entry : (w : ℕ) (s : List ℕ) (k v : ℕ) → 0 < w → k < length s / w → v < 256 ^ w → Stored w s (putAt w s (k * w) v) k v
-stored-entry w s k v pos h l = rw place record { entries-set = one; remainder-kept = r .remainder-kept; length-kept = r .length-kept }
+-- a number stored in a part of exactly its bytes is the part
+part-put : (w : ℕ) (s : List ℕ) (i v : ℕ) → i + w ≤ length s → putAt w (midOf i (i + w - i) s) 0 v ≡ digits w v
+part-put w s i v h =
+    let size : length (midOf i (i + w - i) s) ≡ i + w - i = mid-len i (i + w) s h in
+    let long : length (digits w v) ≡ w = digits-length w v in
+    rw (putAt-room w (midOf i (i + w - i) s) 0 v (omega arith), sets-eq (digits w v) (midOf i (i + w - i) s) 0 (omega arith), drop-of-length-le (midOf i (i + w - i) s) {i = 0 + length (digits w v)} (omega arith))
+    (append-nil (digits w v))
+
+-- an entry stored in its part
+pub stored-entry : (w : ℕ) (s ys : List ℕ) (k v : ℕ) → 0 < w → k < length s / w → v < 256 ^ w
+    → ys ≡ putAt w (midOf (k * w) (k * w + w - k * w) s) 0 v → Stored w s (putMid (k * w) (k * w + w - k * w) s ys) k v
+stored-entry w s ys k v pos h l e = rw place record { entries-set = one; remainder-kept = r .remainder-kept; length-kept = r .length-kept }
   where
-    size : length (digits w v) ≡ w
-    size = digits-length w v
-
-    room : k * w + w ≤ length s
-    room = omega (arith, le-div-iff-mul-le pos .0 h)
-
     t : List ℕ
     t = take (k * w) s ++ digits w v ++ drop ((k + 1) * w) s
 
-    place : putAt w s (k * w) v ≡ t
-    place = rw (putAt-room w s (k * w) v room, sets-eq (digits w v) s (k * w) (omega (arith, room, size)), size, add-mul, one-mul)
+    place : putMid (k * w) (k * w + w - k * w) s ys ≡ t
+    place =
+        rw (e, part-put w s (k * w) v (omega (arith, le-div-iff-mul-le pos .0 h)), post-is (k * w) (k * w + w) s (omega arith), add-mul, one-mul, append-assoc)
 
     r : Replaced w k 1 s (digits w v) t
-    r = replaced w k 1 s (digits w v) pos (omega arith) (omega (arith, size))
+    r = replaced w k 1 s (digits w v) pos (omega arith) (omega (arith, digits-length w v))
 
     one : entries w t ≡ set (entries w s) k v
     one = rw (r .entries-new, entries-digits w v pos l, append-snoc, add-one, ← set-split (entries w s) k v (rw entries-length h))

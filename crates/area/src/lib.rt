@@ -104,7 +104,9 @@ pub fn entry_u16(area: &[u8], k: usize) -> u16
     ensures { λ r. ⌜ r ≡ getD (entries 2 (now (area .entry))) k 0 ⌝ }
 {
     if k < area.len() / 2 {
-        num_u16(area, k * 2)
+        let i = k * 2;
+        let e = i + 2;
+        num_u16(&area[i..e], 0)
     } else {
         0
     }
@@ -115,7 +117,9 @@ pub fn entry_u32(area: &[u8], k: usize) -> u32
     ensures { λ r. ⌜ r ≡ getD (entries 4 (now (area .entry))) k 0 ⌝ }
 {
     if k < area.len() / 4 {
-        num_u32(area, k * 4)
+        let i = k * 4;
+        let e = i + 4;
+        num_u32(&area[i..e], 0)
     } else {
         0
     }
@@ -126,7 +130,9 @@ pub fn store_u16(area: &mut [u8], k: usize, v: u16)
     ensures { λ _. ⌜ Stored 2 (now (area .entry)) (now (area .exit)) k v ⌝ }
 {
     if k < area.len() / 2 {
-        put_u16(area, k * 2, v);
+        let i = k * 2;
+        let e = i + 2;
+        put_u16(&mut area[i..e], 0, v);
     }
 }
 
@@ -135,7 +141,9 @@ pub fn store_u32(area: &mut [u8], k: usize, v: u32)
     ensures { λ _. ⌜ Stored 4 (now (area .entry)) (now (area .exit)) k v ⌝ }
 {
     if k < area.len() / 4 {
-        put_u32(area, k * 4, v);
+        let i = k * 4;
+        let e = i + 4;
+        put_u32(&mut area[i..e], 0, v);
     }
 }
 

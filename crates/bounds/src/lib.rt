@@ -11,19 +11,16 @@ mod places;
 
 use exchange::Sides;
 use planning::Bounded;
-use record::Reply;
+use record::Found;
 
 // The bounds of a place along the order that the order bytes name.
 pub fn bounds(bytes: &[u8], place: usize, order: &[u8]) -> Bounded
     ensures { λ r. ⌜ boundedOf r ≡ boundsOf (now (bytes .entry)) place (now (order .entry)) ⌝ }
 {
-    let mut costs = [0u32; 1000];
-    let mut values = [0u32; 1000];
-    let read = record::read(bytes, &mut costs, &mut values);
-    let reply = read.reply;
-    match reply {
-        Reply::Refused(e) => Bounded::Refused(e),
-        Reply::Accepted => by_form::bounds_in(read.header, &costs, &values, place, order),
+    match record::find(bytes) {
+        Found::Refused(e) => Bounded::Refused(e),
+        Found::Ladder(l) => places::bounds_ladder(l, bytes, place, order),
+        Found::Other => by_form::bounds_other(bytes, place, order),
     }
 }
 

@@ -1,12 +1,12 @@
 // The bounds of a place, by the form of a contract.
 ghost use mathlib.Core.Path.{_≡_};
 ghost use mathlib.Core.Bool.{true};
-ghost use mathlib.Core.List.{[]};
 ghost use Prim.Native.Nat.{_≤_};
 ghost use lib.ListN.{length};
 ghost use Rattle.contract.specs.Res.{ok};
 ghost use Rattle.contract.specs.Valid.{Valid};
-ghost use Rattle.contract.specs.declared.Form.the-variants.{Ladder, UnitPrices, Table};
+ghost use Rattle.contract.specs.declared.Form.the-variants.{UnitPrices, Table};
+ghost use Rattle.record.specs.Find.{LadderFound, ladderIn};
 ghost use Rattle.exchange.specs.Test.{boundsAt};
 ghost use Rattle.line.specs.Segments.{dealAlong};
 ghost use Rattle.line.specs.BoundsPromise.{hasPlace};
@@ -16,6 +16,7 @@ ghost use Rattle.planning.specs.Answer.{boundedOf};
 use contract::Refusal;
 use exchange::Sides;
 use planning::Bounded;
+use record::Ladder;
 
 // The bounds of a place along segments that fit.
 fn bounds_along(sides: Sides, units: &[u16], costs: &[u32], values: &[u32], place: usize) -> Bounded
@@ -28,26 +29,21 @@ fn bounds_along(sides: Sides, units: &[u16], costs: &[u32], values: &[u32], plac
     }
 }
 
-// The bounds of a place of a ladder.
-pub(crate) fn bounds_ladder(
-    sides: Sides,
-    costs: &[u32],
-    values: &[u32],
-    place: usize,
-    order: &[u8],
-) -> Bounded
-    requires { ⌜ Valid (contractWith Ladder sides [] (now costs) (now values)) × (8 ≤ length (now order)) ⌝ }
-    ensures { λ r. ⌜ boundedOf r ≡ boundsIn (contractWith Ladder sides [] (now (costs .entry)) (now (values .entry))) place (now (order .entry)) ⌝ }
+// The bounds of a place of a ladder that was found in its record.
+pub(crate) fn bounds_ladder(l: Ladder, bytes: &[u8], place: usize, order: &[u8]) -> Bounded
+    requires { ⌜ LadderFound (now bytes) l ⌝ }
+    ensures { λ r. ⌜ boundedOf r ≡ boundsIn (ladderIn (now (bytes .entry)) l) place (now (order .entry)) ⌝ }
 {
-    let n = costs.len();
-    if n < place {
+    if order.len() < 8 {
+        return Bounded::Refused(Refusal::Short);
+    }
+    if l.count < place {
         return Bounded::Refused(Refusal::Range);
     }
     if !order::names_each(order, 0) {
         return Bounded::WrongOrder;
     }
-    let ones = sizes::ones();
-    bounds_along(sides, &ones[0..n], costs, values, place)
+    Bounded::Between(ladder::bounds(planning::ladder_of(l), bytes, place))
 }
 
 // The bounds of a place along the named order of unit prices.

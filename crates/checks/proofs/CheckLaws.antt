@@ -1,14 +1,14 @@
 -- The answers to a brought plan. Assumes nothing.
 use mathlib.Core.Path.{_≡_, refl, sym, _∙_, subst}
-use mathlib.Core.Bool.{true, false}
+use mathlib.Core.Bool.{Bool, true, false, not, _&&_, and-eq-true-iff}
 use mathlib.Core.List.{List}
 use Prim.Native.Nat.{ℕ, _≤_, _<_}
 use native.Mathlib.Omega.{arith}
 use lib.Dec.{T, leb}
 use lib.ListN.{length}
-use borrow.Author.Tests.{le-leb, lt-leb}
+use borrow.Author.Tests.{le-leb, lt-leb, leb-true, not-true, not-false}
 use Rattle.area.specs.Entries.{entries}
-use Rattle.contract.specs.Res.{Res, refused, ok}
+use Rattle.contract.specs.Res.{Res, refused, ok, test}
 use Rattle.contract.specs.Contract.{Contract}
 use Rattle.contract.specs.Parse.{parse}
 use Rattle.exchange.specs.Deal.{State}
@@ -51,42 +51,49 @@ check-same order xs {k} {j} e r y = subst (λ (i : Contract). Checks (ok i) r or
 -- ---- the answer by the lengths of the areas
 
 module _ (count : ℕ) (places sums : List ℕ) where
-  no-places : {m : ℕ} → m ≡ length (entries 2 places) → m < count → holdsCount count places sums ≡ false
+  -- an area has fewer entries than the count says
+  pub few-places : {m : ℕ} → m ≡ length (entries 2 places) → m < count → (b : Bool) → false ≡ (holdsCount count places sums && b)
   unfolding holdsCount
-  no-places {m} e h = let f : length (entries 2 places) < count = omega arith in rw (lt-leb _ _ f)
+  few-places {m} e h b = let f : length (entries 2 places) < count = omega arith in rw (lt-leb _ _ f) refl
 
   module _ {m : ℕ} (e : m ≡ length (entries 2 places)) (h : count ≤ m) where
     places-held : leb count (length (entries 2 places)) ≡ true
     places-held = let p : count ≤ length (entries 2 places) = omega arith in le-leb _ _ p
 
-    no-sums : {l : ℕ} → l ≡ length (entries 4 sums) → l < count → holdsCount count places sums ≡ false
+    pub few-sums : {l : ℕ} → l ≡ length (entries 4 sums) → l < count → (b : Bool) → false ≡ (holdsCount count places sums && b)
     unfolding holdsCount
-    no-sums {l} f g = let q : length (entries 4 sums) < count = omega arith in rw (places-held, lt-leb _ _ q)
+    few-sums {l} f g b = let q : length (entries 4 sums) < count = omega arith in rw (places-held, lt-leb _ _ q) refl
 
-    -- both areas have as many entries as the count says
-    pub both-held : {l : ℕ} → l ≡ length (entries 4 sums) → count ≤ l → holdsCount count places sums ≡ true
+    -- both have as many
+    pub both-held : {l : ℕ} → l ≡ length (entries 4 sums) → count ≤ l → (b : Bool) → b ≡ (holdsCount count places sums && b)
     unfolding holdsCount
-    both-held {l} f g = let q : count ≤ length (entries 4 sums) = omega arith in rw (places-held, le-leb _ _ q)
+    both-held {l} f g b = let q : count ≤ length (entries 4 sums) = omega arith in rw (places-held, le-leb _ _ q) refl
 
-module _ (k : Contract) (count : ℕ) (places sums order : List ℕ) where
+  -- by the test
+  pub held-entries : holdsCount count places sums ≡ true → (count ≤ length (entries 2 places)) × (count ≤ length (entries 4 sums))
+  unfolding holdsCount
+  held-entries e = let f = and-eq-true-iff (leb count (length (entries 2 places))) _ .0 e in (leb-true _ _ (f .0), leb-true _ _ (f .1))
+
+module _ (k : Contract) (count : ℕ) (places sums order : List ℕ) {r : Bool} (e : r ≡ (holdsCount count places sums && leb 8 (length order))) where
   -- the brought plan
   abbrev xs : List State
   xs = planIn count places sums
 
-  pub few-places : {m : ℕ} → m ≡ length (entries 2 places) → m < count → Checks (broughtTo k count places sums order) (refused 8) order xs
-  few-places e h = rw (no-places count places sums e h) refl
+  -- 8 where an area is too short
+  pub not-held : not r ≡ true → Checks (broughtTo k count places sums order) (refused 8) order xs
+  not-held y = go (holdsCount count places sums) (leb 8 (length order)) (sym e ∙ not-true r y)
+    where
+      go : (h l : Bool) → (h && l) ≡ false → Checks (test 8 h (test 8 l (ok k))) (refused 8) order xs
+      go true true f = absurd (subst T f tt)
+      go true false f = refl
+      go false l f = refl
 
-  module _ {m : ℕ} (e : m ≡ length (entries 2 places)) (h : count ≤ m) where
-    pub few-sums : {l : ℕ} → l ≡ length (entries 4 sums) → l < count → Checks (broughtTo k count places sums order) (refused 8) order xs
-    few-sums f g = rw (no-sums count places sums e h f g) refl
+  -- else the answer for the contract
+  pub held : not r ≡ false → (holdsCount count places sums ≡ true) × (8 ≤ length order)
+  held y = let f = and-eq-true-iff (holdsCount count places sums) _ .0 (sym e ∙ not-false r y) in (f .0, leb-true _ _ (f .1))
 
-    module _ {l : ℕ} (f : l ≡ length (entries 4 sums)) (g : count ≤ l) where
-      pub few-order : length order < 8 → Checks (broughtTo k count places sums order) (refused 8) order xs
-      few-order j = rw (both-held count places sums e h f g, lt-leb _ _ j) refl
-
-      pub check-brought : 8 ≤ length order → (r : Res (Unit {0})) → Checks (ok k) r order xs
-          → Checks (broughtTo k count places sums order) r order xs
-      check-brought j r y = rw (both-held count places sums e h f g, le-leb _ _ j) y
+  pub check-brought : not r ≡ false → (q : Res (Unit {0})) → Checks (ok k) q order xs → Checks (broughtTo k count places sums order) q order xs
+  check-brought y q c = let (h, l) = held y in rw (h, le-leb 8 (length order) l) c
 
 -- ---- the answer for a record
 

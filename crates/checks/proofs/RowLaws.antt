@@ -1,17 +1,20 @@
 -- A brought plan over the rows of a table, followed step by step. Assumes nothing.
 use mathlib.Core.Path.{_≡_, refl, sym, ap, _∙_, subst}
 use mathlib.Core.Logic.{_↔_}
-use mathlib.Core.Bool.{Bool, true, false, not, and-eq-true-iff}
+use mathlib.Core.Bool.{Bool, true, false, not}
 use mathlib.Core.List.{List}
 use Prim.Native.Nat.{ℕ, _+_, _-_, _≤_, _<_}
 use native.Mathlib.Numerals.{add-one}
 use native.Mathlib.Omega.{arith}
-use lib.Dec.{T, leb}
+use lib.Dec.{T}
+use lib.Signed.{_≤ℤ_}
 use lib.ListN.{length, getD}
-use borrow.Author.Tests.{leb-true, not-true, not-false}
+use borrow.Author.Tests.{not-true, not-false}
 use Rattle.area.specs.Entries.{entries}
+use Rattle.grid.specs.Rows.{rowsOf}
 use Rattle.grid.proofs.RowLaws.{rows-pos}
 use Rattle.contract.specs.Res.{refused}
+use Rattle.contract.specs.Valid.{Valid}
 use Rattle.contract.specs.declared.Form.the-variants.{Table}
 use Rattle.exchange.specs.Deal.{Deal, State, Step, Steps, Plan, start, ends}
 use Rattle.exchange.specs.Forms.{table, holdsRow}
@@ -19,15 +22,59 @@ use Rattle.exchange.specs.PlanIn.{planIn}
 use Rattle.exchange.specs.Test.{boundsAt, stepTest}
 use Rattle.exchange.specs.declared.Sides.{Sides}
 use Rattle.exchange.proofs.GivenOrder.Run.{state-eq}
+use Rattle.exchange.proofs.FormLaws.{table-rising}
 use Rattle.exchange.proofs.PlanInLaws.{entryIn, plan-none, plan-step, plan-next, plan-end}
 use Rattle.exchange.proofs.TestLaws.{step↔}
+use Rattle.line.specs.CheckCode.{passes}
+use Rattle.line.proofs.CheckLaws.{passes-step}
+use Rattle.search.specs.Units.{RowUnits}
 use Rattle.planning.specs.Deals.{contractWith}
-use Rattle.planning.specs.Check.{holdsCount}
-use Rattle.planning.proofs.TablePlan.{costs-rows}
+use Rattle.planning.proofs.TablePlan.{costs-rows, values-rows, few-rows, cells-rise}
 use Rattle.bounds.specs.Places.{rowBounds}
-use Rattle.checks.specs.Brought.{Brought}
+use Rattle.checks.specs.Brought.{Brought, Ready}
+use Rattle.checks.specs.declared.rows.Terms.{Terms}
 use Rattle.planning.specs.Judged.{Judges}
 use Rattle.bounds.proofs.BoundsLaws.{row-bounds-are}
+use Rattle.checks.proofs.CheckLaws.{held-entries}
+
+-- ---- the test of a step between two rows
+
+module _ {t : Terms} {us held cs vs : List ℕ} (valid : Valid (contractWith Table (t .sides) us cs vs)) (ready : Ready t us held cs vs) {a b : ℕ}
+    (first : a < length cs) (second : b < length cs) (p q : ℕ) where
+  -- whether it is a step, by whether row b holds the units of row a
+  abbrev isStep : Bool → Bool
+  isStep h = stepTest h (rowBounds (t .sides) cs vs a) (rowBounds (t .sides) cs vs b) p q (t .sides .price)
+
+  -- no bound falls on the way to a row that holds the units of the first
+  bounds-rise : T (holdsRow us a b)
+      → (rowBounds (t .sides) cs vs a .lower ≤ℤ rowBounds (t .sides) cs vs b .lower) × (rowBounds (t .sides) cs vs a .upper ≤ℤ rowBounds (t .sides) cs vs b .upper)
+  bounds-rise h =
+      let lc = costs-rows (t .sides) us cs vs valid in
+      let lv = values-rows (t .sides) us cs vs valid in
+      let up = cells-rise (t .sides) us cs vs valid in
+      let r = table-rising (t .sides) us cs vs lc lv (up .costs-rise) (up .values-rise) in
+      let i : a ≤ rowsOf us - 1 = omega arith in
+      let j : b ≤ rowsOf us - 1 = omega arith in
+      rw (lc, lv) (r .lower-rises a b i j h, r .upper-rises a b i j h)
+
+  -- the tests that line makes, and whether row b holds the units of row a
+  module _ {r : Bool} (e : r ≡ passes (t .sides) (t .all) (getD cs a 0) (getD vs b 0) p q) where
+    decides : (h : Bool)
+        → (T h → (rowBounds (t .sides) cs vs a .lower ≤ℤ rowBounds (t .sides) cs vs b .lower) × (rowBounds (t .sides) cs vs a .upper ≤ℤ rowBounds (t .sides) cs vs b .upper))
+        → (not r ≡ true → false ≡ isStep h) × (not r ≡ false → h ≡ isStep h)
+    unfolding stepTest
+    decides true rise =
+        let f = e ∙ passes-step (t .sides) (t .all) (getD cs a 0) (getD vs b 0) p q (rowBounds (t .sides) cs vs a) (rowBounds (t .sides) cs vs b) (rw (ready .value-is) refl) (rw (ready .cost-is) refl) (rise tt .0) (rise tt .1) in
+        (λ y. sym (not-true r y) ∙ f, λ y. sym (not-false r y) ∙ f)
+    decides false rise = (λ _. refl, λ _. refl)
+
+    pub fails : not r ≡ true → false ≡ isStep (holdsRow us a b)
+    fails y = decides (holdsRow us a b) bounds-rise .0 y
+
+    pub held-decides : not r ≡ false → {h : Bool} → h ≡ holdsRow us a b → h ≡ isStep (holdsRow us a b)
+    held-decides y k = k ∙ decides (holdsRow us a b) bounds-rise .1 y
+
+-- ---- a brought plan, step by step
 
 module _ (s : Sides) (us cs vs : List ℕ) (n : ℕ) (places sums : List ℕ) where
   -- the deal of the table
@@ -48,13 +95,26 @@ module _ (s : Sides) (us cs vs : List ℕ) (n : ℕ) (places sums : List ℕ) wh
     pub some-rows : 0 < length cs
     some-rows = omega (arith, costs-rows s us cs vs (b .valid), rows-pos us)
 
+    pub few-costs : length cs ≤ 128
+    few-costs = omega (arith, costs-rows s us cs vs (b .valid), few-rows s us cs vs (b .valid))
+
+    pub last-value : length cs - 1 < length vs
+    last-value = omega (arith, some-rows, costs-rows s us cs vs (b .valid), values-rows s us cs vs (b .valid))
+
+    -- the tests can be made
+    pub ready : {held : List ℕ} → RowUnits us held (length cs - 1 + 1)
+        → Ready (record { sides = s; all = record { units = length cs - 1; cost = getD cs (length cs - 1) 0; value = getD vs (length cs - 1) 0 } }) us held cs vs
+    ready {held} u =
+        let lc = costs-rows s us cs vs (b .valid) in
+        let lv = values-rows s us cs vs (b .valid) in
+        let rows : length cs - 1 + 1 ≡ rowsOf us = omega (arith, some-rows) in
+        record { units-held = subst (λ (m : ℕ). RowUnits us held m) rows u; cost-is = refl; value-is = rw (lc, lv) }
+
     places-hold : n ≤ length (entries 2 places)
-    unfolding holdsCount
-    places-hold = leb-true _ _ (and-eq-true-iff (leb n (length (entries 2 places))) _ .0 (b .held) .0)
+    places-hold = held-entries n places sums (b .held) .0
 
     sums-hold : n ≤ length (entries 4 sums)
-    unfolding holdsCount
-    sums-hold = leb-true _ _ (and-eq-true-iff (leb n (length (entries 2 places))) _ .0 (b .held) .1)
+    sums-hold = held-entries n places sums (b .held) .1
 
     pub passed-start : Passed 0 0 0
     passed-start =
@@ -95,7 +155,7 @@ module _ (s : Sides) (us cs vs : List ℕ) (n : ℕ) (places sums : List ℕ) wh
         above l = none (λ p. let q = step-here p .in-deal in omega (arith, costs-rows s us cs vs (b .valid)))
 
         module _ (l : next ≤ length cs - 1) where
-          next-within : next < length cs
+          pub next-within : next < length cs
           next-within = omega (arith, some-rows)
 
           module _ {r : Bool} (e : r ≡ stepTest (holdsRow us row next) (rowBounds s cs vs row) (rowBounds s cs vs next) paid sum (s .price)) where

@@ -1,17 +1,17 @@
-// Checks a brought plan by the form of a contract.
+// Unit prices and tables: reads the contract and checks a brought plan by its form.
 ghost use mathlib.Core.Path.{_≡_};
 ghost use mathlib.Core.Bool.{true};
-ghost use mathlib.Core.List.{[]};
 ghost use Prim.Native.Nat.{_≤_};
 ghost use lib.ListN.{length};
 ghost use Rattle.contract.specs.Res.{ok};
 ghost use Rattle.contract.specs.Contract.{contractOf};
 ghost use Rattle.contract.specs.declared.Form.the-variants.{Ladder, UnitPrices, Table};
+ghost use Rattle.record.specs.Find.{NoLadder};
 ghost use Rattle.exchange.specs.PlanIn.{planIn};
 ghost use Rattle.line.specs.Segments.{dealAlong};
 ghost use Rattle.line.specs.CheckPromise as line;
 ghost use Rattle.planning.specs.Deals.{contractWith};
-ghost use Rattle.planning.specs.Check.{holdsCount, broughtTo, Checks};
+ghost use Rattle.planning.specs.Check.{holdsCount, broughtTo, aheadOfCheck, Checks};
 ghost use Rattle.planning.specs.Answer.{checkedOf};
 ghost use Rattle.checks.specs.Brought.{Brought};
 ghost use Rattle.planning.specs.Judged.{Judges};
@@ -21,6 +21,7 @@ use contract::Header;
 use contract::Refusal;
 use exchange::Sides;
 use planning::Checked;
+use record::Reply;
 
 // Checks a plan along segments that fit.
 fn check_along(
@@ -40,27 +41,6 @@ fn check_along(
         line::Checked::Unsafe => Checked::Unsafe,
         line::Checked::Unfit => Checked::Unsafe,
     }
-}
-
-// Checks a plan of a ladder.
-fn check_ladder(
-    sides: Sides,
-    costs: &[u32],
-    values: &[u32],
-    count: usize,
-    places: &[u8],
-    sums: &[u8],
-    order: &[u8],
-) -> Checked
-    requires { ⌜ Brought (contractWith Ladder sides [] (now costs) (now values)) count (now places) (now sums) × (8 ≤ length (now order)) ⌝ }
-    ensures { λ r. ⌜ Checks (ok (contractWith Ladder sides [] (now (costs .entry)) (now (values .entry)))) (checkedOf r) (now (order .entry)) (planIn count (now (places .entry)) (now (sums .entry))) ⌝ }
-{
-    if !order::names_each(order, 0) {
-        return Checked::Unsafe;
-    }
-    let n = costs.len();
-    let ones = sizes::ones();
-    check_along(sides, &ones[0..n], costs, values, count, places, sums)
 }
 
 // Checks a plan of unit prices along the order that its bytes name.
@@ -106,36 +86,6 @@ fn check_table(
         return Checked::Unsafe;
     }
     crate::rows::follow(sides, units, costs, values, count, places, sums)
-}
-
-// Checks a plan of the ladder in the areas.
-fn ladder_in(
-    header: Header,
-    costs: &[u32],
-    values: &[u32],
-    count: usize,
-    places: &[u8],
-    sums: &[u8],
-    order: &[u8],
-) -> Checked
-    requires { ⌜ Stands header (now costs) (now values) × (header .form ≡ Ladder) × (holdsCount count (now places) (now sums) ≡ true) × (8 ≤ length (now order)) ⌝ }
-    ensures { λ r. ⌜ Checks (ok (contractOf header (now (costs .entry)) (now (values .entry)))) (checkedOf r) (now (order .entry)) (planIn count (now (places .entry)) (now (sums .entry))) ⌝ }
-{
-    let sides = Sides {
-        price: header.price,
-        supplier: header.supplier,
-        buyer: header.buyer,
-    };
-    let n = header.count as usize;
-    check_ladder(
-        sides,
-        &costs[0..n],
-        &values[0..n],
-        count,
-        places,
-        sums,
-        order,
-    )
 }
 
 // Checks a plan of the unit prices in the areas.
@@ -213,19 +163,19 @@ fn check_form(
     sums: &[u8],
     order: &[u8],
 ) -> Checked
-    requires { ⌜ Stands header (now costs) (now values) × (holdsCount count (now places) (now sums) ≡ true) × (8 ≤ length (now order)) ⌝ }
+    requires { ⌜ Stands header (now costs) (now values) × (header .form ≡ Ladder → ⊥) × (holdsCount count (now places) (now sums) ≡ true) × (8 ≤ length (now order)) ⌝ }
     ensures { λ r. ⌜ Checks (ok (contractOf header (now (costs .entry)) (now (values .entry)))) (checkedOf r) (now (order .entry)) (planIn count (now (places .entry)) (now (sums .entry))) ⌝ }
 {
     let form = header.form;
     match form {
-        Form::Ladder => ladder_in(header, costs, values, count, places, sums, order),
+        Form::Ladder => Checked::Unsafe,
         Form::UnitPrices => prices_in(header, costs, values, count, places, sums, order),
         Form::Table => table_in(header, costs, values, count, places, sums, order),
     }
 }
 
 // Checks a plan of a contract whose costs and values stand at the front of two areas.
-pub(crate) fn check_contract(
+fn check_contract(
     header: Header,
     costs: &[u32],
     values: &[u32],
@@ -234,17 +184,32 @@ pub(crate) fn check_contract(
     sums: &[u8],
     order: &[u8],
 ) -> Checked
-    requires { ⌜ Stands header (now costs) (now values) ⌝ }
+    requires { ⌜ Stands header (now costs) (now values) × (header .form ≡ Ladder → ⊥) ⌝ }
     ensures { λ r. ⌜ Checks (broughtTo (contractOf header (now (costs .entry)) (now (values .entry))) count (now (places .entry)) (now (sums .entry)) (now (order .entry))) (checkedOf r) (now (order .entry)) (planIn count (now (places .entry)) (now (sums .entry))) ⌝ }
 {
-    if area::count_u16(places) < count {
-        return Checked::Refused(Refusal::Short);
-    }
-    if area::count_u32(sums) < count {
-        return Checked::Refused(Refusal::Short);
-    }
-    if order.len() < 8 {
+    if !crate::brought::holds_plan(count, places, sums, order) {
         return Checked::Refused(Refusal::Short);
     }
     check_form(header, costs, values, count, places, sums, order)
+}
+
+// Checks a plan of a record that is no ladder's: its costs and values fit into two areas of 128.
+pub(crate) fn check_other(
+    bytes: &[u8],
+    count: usize,
+    places: &[u8],
+    sums: &[u8],
+    order: &[u8],
+) -> Checked
+    requires { ⌜ NoLadder (now bytes) ⌝ }
+    ensures { λ r. ⌜ Checks (aheadOfCheck (now (bytes .entry)) count (now (places .entry)) (now (sums .entry)) (now (order .entry))) (checkedOf r) (now (order .entry)) (planIn count (now (places .entry)) (now (sums .entry))) ⌝ }
+{
+    let mut costs = [0u32; 128];
+    let mut values = [0u32; 128];
+    let read = record::read(bytes, &mut costs, &mut values);
+    let reply = read.reply;
+    match reply {
+        Reply::Refused(e) => Checked::Refused(e),
+        Reply::Accepted => check_contract(read.header, &costs, &values, count, places, sums, order),
+    }
 }

@@ -1,4 +1,4 @@
--- A valid contract is found again from its header and from areas that begin with its costs and values; areas of 1,000 have room for every one.
+-- A valid contract is found again from its header and from areas that begin with its costs and values; areas of 128 have room for every one but a ladder's.
 -- Assumes nothing.
 use mathlib.Core.Path.{_≡_, refl, sym, ap, _∙_}
 use mathlib.Core.Bool.{and-eq-true-iff}
@@ -50,33 +50,31 @@ module _ (p a b : ℕ) (us cs vs xs ys : List ℕ) where
 pub from-header : (k : Contract) (xs ys : List ℕ) → Valid k → contractOf (headerOf k) (k .costs ++ xs) (k .values ++ ys) ≡ k
 from-header k xs ys v = back (k .price) (k .supplier) (k .buyer) (k .units) (k .costs) (k .values) xs ys (k .form) v
 
--- no contract has more than 1,000 costs or values
-pub few-entries : (k : Contract) → Valid k → (length (k .costs) ≤ 1000) × (length (k .values) ≤ 1000)
+-- no contract but a ladder's has more than 128 costs or values
+few-entries : (k : Contract) → Valid k → (k .form ≡ Ladder → ⊥) → (length (k .costs) ≤ 128) × (length (k .values) ≤ 128)
 unfolding inRange
-few-entries k v = go (k .price) (k .supplier) (k .buyer) (k .units) (k .costs) (k .values) (k .form) v
+few-entries k v other = go (k .price) (k .supplier) (k .buyer) (k .units) (k .costs) (k .values) (k .form) v other
   where
-    go : (p a b : ℕ) (us cs vs : List ℕ) (f : Form) → Valid (make p a b us cs vs [] [] f) → (length cs ≤ 1000) × (length vs ≤ 1000)
-    go p a b us cs vs Ladder v =
-        let (_, high) = simp and-eq-true-iff at (v .range) in
-        let h : length cs ≤ 1000 = leb-true _ _ high in
-        (h, omega (arith, v .values-counted))
-    go p a b us cs vs UnitPrices v =
+    go : (p a b : ℕ) (us cs vs : List ℕ) (f : Form) → Valid (make p a b us cs vs [] [] f) → (f ≡ Ladder → ⊥)
+        → (length cs ≤ 128) × (length vs ≤ 128)
+    go p a b us cs vs Ladder v other = absurd (other refl)
+    go p a b us cs vs UnitPrices v other =
         let (((_, high), _), _) = simp and-eq-true-iff at (v .range) in
         let h : length us ≤ 8 = leb-true _ _ high in
         (omega (arith, v .costs-counted), omega (arith, v .values-counted))
-    go p a b us cs vs Table v =
+    go p a b us cs vs Table v other =
         let (_, high) = simp and-eq-true-iff at (v .range) in
         let h : rowsOf us ≤ 128 = leb-true _ _ high in
         let n : rowsOf (take (length us) us) ≡ rowsOf us = ap rowsOf (v .units-counted) in
         (omega (arith, v .costs-counted), omega (arith, v .values-counted))
 
--- so areas of 1,000 are never too short
-pub reading-all : (s : List ℕ) → reading s 1000 1000 ≡ parse s
+-- so areas of 128 are never too short for a record that is no ladder's
+pub reading-all : (s : List ℕ) → ((k : Contract) → parse s ≡ ok k → k .form ≡ Ladder → ⊥) → reading s 128 128 ≡ parse s
 unfolding reading sized
-reading-all s = go (parse s) refl
+reading-all s other = go (parse s) refl
   where
-    go : (r : Res Contract) → parse s ≡ r → sized r 1000 1000 ≡ r
+    go : (r : Res Contract) → parse s ≡ r → sized r 128 128 ≡ r
     go (refused n) e = refl
     go (ok k) e =
-        let (c, v) = few-entries k (parsed-valid s k e) in
+        let (c, v) = few-entries k (parsed-valid s k e) (other k e) in
         rw (le-leb _ _ c, le-leb _ _ v) refl

@@ -1,21 +1,27 @@
 -- Filling a table's cells row by row. Assumes nothing.
 use mathlib.Core.Path.{_≡_, refl, sym, ap, _∙_}
-use mathlib.Core.Bool.{Bool, cond}
-use mathlib.Core.List.{List, _++_, append-nil}
+use mathlib.Core.Bool.{true, cond}
+use mathlib.Core.List.{List, [], _∷_, _++_, append-nil}
 use Prim.Native.Nat.{ℕ, zero, suc, _+_, _≤_, _<_}
 use native.Mathlib.Numerals.{add-one}
 use native.Mathlib.Omega.{arith}
-use lib.ListN.{length, getD, set, drop, length-append, length-drop, drop-of-length-le}
-use lib.Seq.{drop-cons, append-snoc, set-at}
-use Rattle.grid.specs.Rows.{largestBelow, rising}
+use borrow.Author.Tests.{eq-eqb}
+use lib.ListN.{length, getD, set, take, drop, length-append, length-drop, drop-of-length-le}
+use lib.Seq.{take-suc, drop-cons, drop-length, append-snoc, set-at, length-take-le, length-front}
+use Rattle.grid.specs.Rows.{largestBelow}
 use Rattle.grid.specs.Map.{bitAt, stands, standing}
-use Rattle.grid.specs.Cells.{cellOf, filled, Fills}
+use Rattle.grid.specs.Cells.{cellOf, filled}
 use Rattle.grid.proofs.RowLaws.{largest-front}
+use Rattle.grid.proofs.MapLaws.{bit-le, standing-le}
 
 pub filled-length : (us map gs : List ℕ) (n : ℕ) → length (filled us map gs n) ≡ n
 unfolding filled
 filled-length us map gs zero = refl
 filled-length us map gs (suc n) = simp length-append (ap (λ (k : ℕ). k + 1) (filled-length us map gs n) ∙ add-one n)
+
+-- one store after a front of r elements
+front-store : (p d : List ℕ) (r v : ℕ) → length p ≡ r → r < length d → set (p ++ drop r d) r v ≡ (p ++ v ∷ []) ++ drop (suc r) d
+front-store p d r v l h = rw (drop-cons d r 0 h) (set-at p (getD d r 0) (drop (suc r) d) v r l ∙ sym (append-snoc p v (drop (suc r) d)))
 
 -- the first r rows are filled, and the others as before
 pub record Filling (us map gs before cells : List ℕ) (used : ℕ) (r : ℕ) : Type 0 where
@@ -45,18 +51,56 @@ module _ {us map gs before cells : List ℕ} {used r : ℕ} (f : Filling us map 
       rw add-one
       (record {
         within = omega arith;
-        cells-are =
-            ap (λ (xs : List ℕ). set xs r v) (f .cells-are) ∙ ap (λ (xs : List ℕ). set (filled us map gs r ++ xs) r v) (drop-cons before r 0 l)
-            ∙ set-at (filled us map gs r) (getD before r 0) (drop (suc r) before) v r known
-            ∙ sym (append-snoc (filled us map gs r) v (drop (suc r) before)) ∙ rw (← value);
+        cells-are = ap (λ (xs : List ℕ). set xs r v) (f .cells-are) ∙ front-store (filled us map gs r) before r v known l ∙ rw (← value);
         used-is = eu ∙ rw (f .used-is);
       })
 
-  pub filling-done : {rises : Bool} → length cells ≤ r → rises ≡ rising us cells (length cells) → Fills us map gs before rises cells
-  filling-done h q =
+  pub filling-done : length cells ≤ r → cells ≡ filled us map gs (length before)
+  filling-done h =
       let l : length cells ≡ length before = filling-length in
       let e : length cells ≡ r = omega (arith, f .within) in
-      record {
-        cells-are = f .cells-are ∙ rw (drop-of-length-le before {i = r} (omega arith), append-nil, ← l, e);
-        rises-is = q;
-      }
+      f .cells-are ∙ rw (drop-of-length-le before {i = r} (omega arith), append-nil, ← l, e)
+
+-- the first r cells are the given ones, and the others as before
+pub record Copying (gs before cells : List ℕ) (r : ℕ) : Type 0 where
+  pub within : r ≤ length before
+  pub enough : length before ≤ length gs
+  pub cells-are : cells ≡ take r gs ++ drop r before
+
+pub copying-start : (gs before : List ℕ) → length before ≤ length gs → Copying gs before before 0
+copying-start gs before h = record { within = omega arith; enough = h; cells-are = refl }
+
+module _ {gs before cells : List ℕ} {r : ℕ} (f : Copying gs before cells r) where
+  copied : length (take r gs) ≡ r
+  copied = length-take-le r gs (omega (arith, f .within, f .enough))
+
+  pub copying-length : length cells ≡ length before
+  copying-length = ap length (f .cells-are) ∙ length-front before (take r gs) r (copied ∙ sym (length-take-le r before (f .within)))
+
+  -- one cell more
+  pub copying-turn : {v : ℕ} → r < length cells → v ≡ getD gs r 0 → Copying gs before (set cells r v) (r + 1)
+  copying-turn {v} h e =
+      let l : r < length before = rw copying-length at h in
+      rw add-one
+      (record {
+        within = l;
+        enough = f .enough;
+        cells-are =
+            ap (λ (xs : List ℕ). set xs r v) (f .cells-are) ∙ front-store (take r gs) before r v copied l
+            ∙ rw (take-suc gs r 0 (omega (arith, f .enough)), e);
+      })
+
+  pub copying-done : length cells ≤ r → cells ≡ take (length before) gs
+  copying-done h =
+      let l : length cells ≡ length before = copying-length in
+      let e : r ≡ length before = omega (arith, f .within) in
+      f .cells-are ∙ rw (e, drop-length, append-nil)
+
+-- where every row stands, the cells are the given ones in order
+pub all-filled : (us map gs : List ℕ) (n : ℕ) → standing map n ≡ n → n ≤ length gs → filled us map gs n ≡ take n gs
+unfolding filled standing
+all-filled us map gs zero s h = refl
+all-filled us map gs (suc n) s h =
+    let low : standing map n ≡ n = omega (arith, standing-le map n, bit-le map n) in
+    let bit : stands map n ≡ true = eq-eqb (bitAt map n) 1 (omega arith) in
+    rw (all-filled us map gs n low (omega arith), bit, low) (sym (take-suc gs n 0 h))

@@ -7,9 +7,13 @@ ghost use lib.ListN.{length, getD};
 ghost use Rattle.area.specs.Entries.{entries};
 ghost use Rattle.grid.specs.Rows.{rowsOf, largestBelow, rising};
 ghost use Rattle.grid.specs.Map.{bitAt, stands, bitsFrom, marked};
-ghost use Rattle.grid.specs.Cells.{rowMap, Fills};
+ghost use Rattle.grid.specs.Cells.{rowMap, filled, Fills};
 
+mod full;
 mod rise;
+
+use full::all_given;
+use full::copy_given;
 
 // A table has at most this many rows.
 pub const MAX_ROWS: usize = 128;
@@ -128,9 +132,9 @@ fn still_rising(rises: bool, below: u32, v: u32) -> bool
     if below <= v { rises } else { false }
 }
 
-// Fills a table's cells from the given ones, and says whether none is below that of a row with one unit less of one item.
-pub fn fill(units: &[u16], map: &[u8], given: &[u8], cells: &mut [u32]) -> bool
-    ensures { λ b. ⌜ Fills (now (units .entry)) (now (map .entry)) (entries 4 (now (given .entry))) (now (cells .entry)) b (now (cells .exit)) ⌝ }
+// Fills a table's cells row by row.
+fn fill_rows(units: &[u16], map: &[u8], given: &[u8], cells: &mut [u32])
+    ensures { λ _. ⌜ now (cells .exit) ≡ filled (now (units .entry)) (now (map .entry)) (entries 4 (now (given .entry))) (length (now (cells .entry))) ⌝ }
 {
     let mut used: usize = 0;
     let mut r: usize = 0;
@@ -140,6 +144,26 @@ pub fn fill(units: &[u16], map: &[u8], given: &[u8], cells: &mut [u32]) -> bool
         used = c.used;
         r += 1;
     }
+}
+
+// Fills a table's cells: a plain copy where every cell is given.
+fn fill_cells(units: &[u16], map: &[u8], given: &[u8], cells: &mut [u32])
+    ensures { λ _. ⌜ now (cells .exit) ≡ filled (now (units .entry)) (now (map .entry)) (entries 4 (now (given .entry))) (length (now (cells .entry))) ⌝ }
+{
+    if cells.len() <= given.len() / 4 {
+        if all_given(map, cells.len()) {
+            copy_given(given, cells);
+            return;
+        }
+    }
+    fill_rows(units, map, given, cells);
+}
+
+// Fills a table's cells from the given ones, and says whether none is below that of a row with one unit less of one item.
+pub fn fill(units: &[u16], map: &[u8], given: &[u8], cells: &mut [u32]) -> bool
+    ensures { λ b. ⌜ Fills (now (units .entry)) (now (map .entry)) (entries 4 (now (given .entry))) (now (cells .entry)) b (now (cells .exit)) ⌝ }
+{
+    fill_cells(units, map, given, cells);
     rise::all_rise(units, cells)
 }
 

@@ -8,26 +8,28 @@ use native.Mathlib.Omega.{arith}
 use native.Mathlib.Numerals.{add-one}
 use borrow.Author.Tests.{eqb-true, eq-eqb, leb-true, le-leb, not-true, not-false}
 use lib.Dec.{T, eqb, le→leb}
-use lib.IntN.{pos}
+use lib.IntN.{ℤ, pos}
 use lib.Signed.{leZ, _≤ℤ_}
 use lib.Ieee.Bits.{is-true}
 use lib.ListN.{length, getD}
 use Rattle.area.specs.Entries.{entries}
+use Rattle.exchange.specs.Bounds.{upperOf, lowerOf}
 use Rattle.exchange.specs.Deal.{State, Step, Steps, Plan, start, ends}
 use Rattle.exchange.specs.PlanIn.{planIn}
 use Rattle.exchange.specs.Test.{boundsAt, safeTest, stepTest}
 use Rattle.exchange.specs.declared.Bounds.{Bounds}
 use Rattle.exchange.proofs.Int.{leZ-true, ≤-trans}
+use Rattle.exchange.proofs.BoundLaws.{upper-rises, lower-rises}
 use Rattle.exchange.proofs.GivenOrder.Run.{state-eq}
 use Rattle.exchange.proofs.PlanInLaws.{entryIn, plan-none, plan-step, plan-next, plan-end}
 use Rattle.exchange.proofs.TestLaws.{step↔}
 use Rattle.line.specs.Segments.{spread, fits, dealAlong}
 use Rattle.line.specs.CheckPromise.{holdsCount}
 use Rattle.line.specs.Code.{sumTo, Fit, Known, At, There, origin}
-use Rattle.line.specs.CheckCode.{Ahead, Brought, Judges, cursorBounds}
-use Rattle.line.specs.declared.place.Cursor.{Cursor}
+use Rattle.line.specs.CheckCode.{Ahead, Brought, Judges, cursorBounds, passes}
+use Rattle.line.specs.declared.Cursor.{Cursor}
 use Rattle.exchange.specs.declared.Sides.{Sides}
-use Rattle.line.specs.declared.sums.Totals.{Totals}
+use Rattle.line.specs.declared.Totals.{Totals}
 use Rattle.line.proofs.SegmentLaws.{sum-up, at-origin, fits↔, not-so}
 use Rattle.line.proofs.PlaceLaws.{cursor-bounds}
 
@@ -43,15 +45,28 @@ safe↔ p at P = (
   λ h. rw (leZ-true _ _ .1 (h .0), leZ-true _ _ .1 (h .1), le-leb _ _ (h .2)),
 )
 
-module _ (a b : Bounds) (p q P : ℕ) where
-  -- what decides where both bounds rise
-  pub record Tests : Type 0 where
-    pub pays : p ≤ q
-    pub within : q ≤ P
-    pub low : b .lower ≤ℤ pos p
-    pub high : pos q ≤ℤ a .upper
+-- what decides where both bounds rise: the lower bound of the later place and the upper bound of the earlier
+record Tests (lower upper : ℤ) (p q P : ℕ) : Type 0 where
+  pays : p ≤ q
+  within : q ≤ P
+  low : lower ≤ℤ pos p
+  high : pos q ≤ℤ upper
 
-  step-tests : stepTest true a b p q P ≡ true → Tests
+passes↔ : (s : Sides) (t : Totals) (cost value p q : ℕ)
+    → (passes s t cost value p q ≡ true)
+    ↔ Tests (lowerOf (s .price) (t .value) value (s .buyer)) (upperOf (s .price) (t .cost) cost (s .supplier)) p q (s .price)
+unfolding passes
+passes↔ s t cost value p q = (
+  λ e.
+      let f = and-eq-true-iff _ _ .0 e in
+      let g = and-eq-true-iff _ _ .0 (f .0) in
+      let h = and-eq-true-iff _ _ .0 (g .0) in
+      record { pays = leb-true _ _ (h .0); within = leb-true _ _ (h .1); low = leZ-true _ _ .0 (g .1); high = leZ-true _ _ .0 (f .1) },
+  λ h. rw (le-leb _ _ (h .pays), le-leb _ _ (h .within), leZ-true _ _ .1 (h .low)) (leZ-true _ _ .1 (h .high)),
+)
+
+module _ (a b : Bounds) (p q P : ℕ) where
+  step-tests : stepTest true a b p q P ≡ true → Tests (b .lower) (a .upper) p q P
   unfolding stepTest
   step-tests e =
       let f = and-eq-true-iff _ _ .0 e in
@@ -61,7 +76,7 @@ module _ (a b : Bounds) (p q P : ℕ) where
       let paid = safe↔ q a P .0 (g .1) in
       record { pays = leb-true _ _ (j .0); within = paid .2; low = safe↔ p b P .0 (h .1) .0; high = paid .1 }
 
-  tests-step : a .lower ≤ℤ b .lower → a .upper ≤ℤ b .upper → Tests → stepTest true a b p q P ≡ true
+  tests-step : a .lower ≤ℤ b .lower → a .upper ≤ℤ b .upper → Tests (b .lower) (a .upper) p q P → stepTest true a b p q P ≡ true
   unfolding stepTest
   tests-step lows highs t =
       let more : pos p ≤ℤ pos q = record { le = le→leb p q (t .pays) } in
@@ -71,17 +86,18 @@ module _ (a b : Bounds) (p q P : ℕ) where
       rw (le-leb p q (t .pays), safe↔ p a P .1 (low, high, within), safe↔ p b P .1 (t .low, ≤-trans high highs, within), safe↔ q a P .1 (≤-trans low more, t .high, t .within))
       (safe↔ q b P .1 (≤-trans (t .low) more, ≤-trans (t .high) highs, t .within))
 
-  pub not-step : (Tests → ⊥) → false ≡ stepTest true a b p q P
-  not-step n = sym (not-so _ (λ e. n (step-tests e)))
+-- where no bound falls on the way from a to b, the four comparisons are the test of the step
+module _ (s : Sides) (t : Totals) (cost value p q : ℕ) (a b : Bounds) (low : b .lower ≡ lowerOf (s .price) (t .value) value (s .buyer))
+    (high : a .upper ≡ upperOf (s .price) (t .cost) cost (s .supplier)) where
+  tests : (passes s t cost value p q ≡ true) ↔ Tests (b .lower) (a .upper) p q (s .price)
+  tests = rw (low, high) (passes↔ s t cost value p q)
 
-  -- the last test, where the others are passed
-  pub last-test : a .lower ≤ℤ b .lower → a .upper ≤ℤ b .upper → p ≤ q → q ≤ P → b .lower ≤ℤ pos p → {r : Bool} → r ≡ leZ (pos q) (a .upper)
-      → r ≡ stepTest true a b p q P
-  last-test lows highs pays within low {r} e = go r refl
+  pub passes-step : a .lower ≤ℤ b .lower → a .upper ≤ℤ b .upper → passes s t cost value p q ≡ stepTest true a b p q (s .price)
+  passes-step lows highs = go (passes s t cost value p q) refl
     where
-      go : (x : Bool) → r ≡ x → r ≡ stepTest true a b p q P
-      go true y = y ∙ sym (tests-step lows highs (record { pays = pays; within = within; low = low; high = leZ-true _ _ .0 (sym e ∙ y) }))
-      go false y = y ∙ not-step (λ t. subst T (sym (leZ-true _ _ .1 (t .high)) ∙ sym e ∙ y) tt)
+      go : (x : Bool) → passes s t cost value p q ≡ x → passes s t cost value p q ≡ stepTest true a b p q (s .price)
+      go true y = y ∙ sym (tests-step a b p q (s .price) lows highs (tests .0 y))
+      go false y = y ∙ sym (not-so (stepTest true a b p q (s .price)) (λ e. subst T (sym (tests .1 (step-tests a b p q (s .price) e)) ∙ y) tt))
 
 -- ---- a brought plan, step by step
 
@@ -145,20 +161,23 @@ module _ (s : Sides) (us cs vs : List ℕ) (n : ℕ) (places sums : List ℕ) wh
           ahead = record { fit = b .known .fit; at = g .at; from = l; within = omega (arith, b .known .units-are) }
 
           -- both sums rise on the way
-          pub rises : {to : Cursor} → There us cs vs to place → (c .cost ≤ to .cost) × (c .value ≤ to .value)
+          rises : {to : Cursor} → There us cs vs to place → (c .cost ≤ to .cost) × (c .value ≤ to .value)
           rises {to} a =
               let h = a .place-is in
               let up : (xs : List ℕ) → sumTo xs (c .place) ≤ sumTo xs (to .place) = λ xs. sum-up xs (c .place) (to .place) (omega arith) in
               (omega (arith, up (spread us cs), g .at .cost-is, a .at .cost-is), omega (arith, up (spread us vs), g .at .value-is, a .at .value-is))
 
-          module _ {to : Cursor} (a : There us cs vs to place) {r : Bool} (e : r ≡ stepTest true (cursorBounds s t c) (cursorBounds s t to) paid sum (s .price)) where
+          module _ {to : Cursor} (a : There us cs vs to place) {r : Bool} (e : r ≡ passes s t (c .cost) (to .value) paid sum) where
             -- the test of the step
             tested : (r ≡ true) ↔ Step (dealAlong s us cs vs) (record { place = c .place; paid = paid }) (record { place = place; paid = sum })
             tested =
                 let d = dealAlong s us cs vs in
                 let q = step↔ d (record { place = c .place; paid = paid }) (record { place = place; paid = sum }) (omega (arith, b .known .units-are)) in
                 let f : r ≡ stepTest (d .holds (c .place) place) (boundsAt d (c .place)) (boundsAt d place) paid sum (s .price) =
-                e ∙ rw (cursor-bounds s us cs vs t (b .known) c (g .at), cursor-bounds s us cs vs t (b .known) to (a .at), a .place-is, le-leb _ _ l) in
+                e
+                ∙ passes-step s t (c .cost) (to .value) paid sum (cursorBounds s t c) (cursorBounds s t to) refl refl
+                (lower-rises (s .price) (t .value) (s .buyer) (rises a .1)) (upper-rises (s .price) (t .cost) (s .supplier) (rises a .0))
+                ∙ rw (cursor-bounds s us cs vs t (b .known) c (g .at), cursor-bounds s us cs vs t (b .known) to (a .at), a .place-is, le-leb _ _ l) in
                 (λ y. q .0 (sym f ∙ y), λ y. f ∙ q .1 y)
 
             pub refused : not r ≡ true → Judges (dealAlong s us cs vs) (planIn n places sums) false

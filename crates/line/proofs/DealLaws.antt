@@ -1,11 +1,11 @@
 -- The deal along segments, by the code's numbers: the tests of its bounds, where a delivery stops, and which deals are possible.
 -- Assumes nothing.
 use mathlib.Core.Path.{_≡_, refl, sym, ap, _∙_, subst}
-use mathlib.Core.Logic.{_↔_, Iff·trans, dite}
+use mathlib.Core.Logic.{_↔_, Iff·trans}
 use mathlib.Core.Bool.{Bool, true, false, not, _&&_, and-eq-true-iff}
 use mathlib.Core.List.{List}
 use Prim.Native.Nat.{ℕ, suc, _+_, _*_, _-_, _≤_, _<_, _^_}
-use native.Mathlib.Nat.{le-trans, mul-le-mul-right, lt-of-mul-lt-mul-right}
+use native.Mathlib.Nat.{le-trans, mul-le-mul-right}
 use native.Mathlib.Decide.{decLe}
 use native.Mathlib.Omega.{arith}
 use borrow.Author.Tests.{leb-false, not-true, not-false}
@@ -30,9 +30,9 @@ use Rattle.exchange.proofs.GivenOrder.Greedy.{OnLine, floor-up}
 use Rattle.exchange.proofs.GivenOrder.RuleLaws.{rule-greedy}
 use Rattle.exchange.proofs.TestLaws.{test↔}
 use Rattle.line.specs.Segments.{spread, dealAlong}
-use Rattle.line.specs.Code.{sumTo, Known, At, Open, There, Reached, Delivered, Decides, origin, startBounds, meet}
-use Rattle.line.specs.declared.place.Cursor.{Cursor}
-use Rattle.line.specs.declared.sums.Totals.{Totals}
+use Rattle.line.specs.Code.{sumTo, Known, At, Open, There, Reached, Delivered, Decides, UnitsIn, origin, startBounds, meet}
+use Rattle.line.specs.declared.Cursor.{Cursor}
+use Rattle.line.specs.declared.Totals.{Totals}
 use Rattle.line.proofs.SegmentLaws.{sum-zero, at-origin, not-so, place-on, cost-on, value-on, value-fits, cost-there, value-there}
 
 -- two sides that rise by constants: in order at first and after i and j rises, they are so after i
@@ -53,7 +53,7 @@ module _ (s : Sides) (us cs vs : List ℕ) where
   on-line = record { lawful = lawful (dealAlong s us cs vs) rising; counts = λ a b. refl }
 
   -- a scan upwards that stops at b has found where the rule delivers
-  reach-is : (p b : ℕ) → b ≤ length (spread us cs) → dealAlong s us cs vs .lower b ≤ℤ pos p
+  pub reach-is : (p b : ℕ) → b ≤ length (spread us cs) → dealAlong s us cs vs .lower b ≤ℤ pos p
       → (b < length (spread us cs) → leZ (dealAlong s us cs vs .lower (suc b)) (pos p) ≡ false)
       → b ≡ reach (dealAlong s us cs vs) p (length (spread us cs))
   unfolding rule
@@ -77,14 +77,14 @@ module _ (s : Sides) (us cs vs : List ℕ) where
           absurd (omega arith)
 
   -- no plan where the start is not safe, or where a gap is
-  none : (Possible (dealAlong s us cs vs) → ⊥) → Decides (dealAlong s us cs vs) false
+  pub none : (Possible (dealAlong s us cs vs) → ⊥) → Decides (dealAlong s us cs vs) false
   none n =
       record {
         yes = λ e. absurd (subst T (sym e) tt);
         no = λ _ xs p. n (plan-exists (dealAlong s us cs vs) rising (λ a b. refl) .0 (xs, p));
       }
 
-  all : Possible (dealAlong s us cs vs) → Decides (dealAlong s us cs vs) true
+  pub all : Possible (dealAlong s us cs vs) → Decides (dealAlong s us cs vs) true
   all p = record { yes = λ _. p; no = λ e. absurd (subst T e tt) }
 
   -- the start is safe, and no gap lies before the cursor's place
@@ -96,7 +96,7 @@ module _ (s : Sides) (us cs vs : List ℕ) where
   -- ---- by the code's numbers
 
   module _ (t : Totals) (k : Known us cs vs t) where
-    lower-at : (c : Cursor) → At us cs vs c → lowerOf (s .price) (t .value) (c .value) (s .buyer) ≡ dealAlong s us cs vs .lower (c .place)
+    pub lower-at : (c : Cursor) → At us cs vs c → lowerOf (s .price) (t .value) (c .value) (s .buyer) ≡ dealAlong s us cs vs .lower (c .place)
     lower-at c a = rw (k .value-is, a .value-is)
 
     pub upper-at : (c : Cursor) → At us cs vs c → upperOf (s .price) (t .cost) (c .cost) (s .supplier) ≡ dealAlong s us cs vs .upper (c .place)
@@ -125,7 +125,7 @@ module _ (s : Sides) (us cs vs : List ℕ) where
         })
 
     -- a gap as an order of sums
-    meet↔ : (cost value : ℕ) → (meet s t cost value ≡ true) ↔ (s .price + value + t .cost ≤ s .price + cost + s .supplier + (t .value + s .buyer))
+    pub meet↔ : (cost value : ℕ) → (meet s t cost value ≡ true) ↔ (s .price + value + t .cost ≤ s .price + cost + s .supplier + (t .value + s .buyer))
     meet↔ cost value =
         rw (lower-is (s .price) (t .value) value (s .buyer), upper-is (s .price) (t .cost) cost (s .supplier))
         (Iff·trans (leZ-true _ _) (≤-sub (s .price + value) (t .value + s .buyer) (s .price + cost + s .supplier) (t .cost)))
@@ -227,55 +227,38 @@ module _ (s : Sides) (us cs vs : List ℕ) where
 
     -- ---- a delivery
 
-    pub reached-next : (paid : ℕ) (n : Cursor) → At us cs vs n → (b : Bool) → b ≡ leZ (lowerOf (s .price) (t .value) (n .value) (s .buyer)) (pos paid)
-        → not b ≡ false → Reached s us cs vs paid n
-    reached-next paid n m b f h = record { at = m; low = leZ-true _ _ .0 (rw (← lower-at n m) (sym f ∙ not-false b h)) }
-
     -- the lower bound of a place is at most what is paid, as an order of sums
     pub low-sums : (paid : ℕ) (c : Cursor) → Reached s us cs vs paid c → s .price + c .value ≤ paid + (t .value + s .buyer)
     low-sums paid c r = low↔ (s .price) (t .value) (c .value) (s .buyer) paid .0 (rw (lower-at c (r .at)) (r .low))
 
     -- free is the value that may still be delivered
     module _ (paid : ℕ) (c : Cursor) (o : Open us cs vs c) (free : ℕ) (q : s .price + c .value + free ≡ paid + (t .value + s .buyer)) where
-      -- the n units left of the cursor's segment are too many
-      module _ (whole : Cursor) (n : ℕ) (e : c .used + n ≡ getD us (c .segment) 0) (m : There us cs vs whole (c .place + n)) (b : Bool)
-          (f : b ≡ leZ (lowerOf (s .price) (t .value) (whole .value) (s .buyer)) (pos paid)) (h : not b ≡ true) where
-        too-many : free < n * getD vs (c .segment) 0
-        too-many =
-            dite (decLe (n * getD vs (c .segment) 0) free)
-            (λ l.
-            let low = low↔ (s .price) (t .value) (whole .value) (s .buyer) paid .1 (omega (arith, value-there us cs vs c o n (omega arith) whole m)) in
-            absurd (subst T (sym (f ∙ leZ-true _ _ .1 low) ∙ not-true b h) tt))
-            (λ (l : n * getD vs (c .segment) 0 ≤ free → ⊥). omega arith)
+      -- i of the n units left of the cursor's segment are delivered
+      module _ (n : ℕ) (e : c .used + n ≡ getD us (c .segment) 0) (i : ℕ) (u : UnitsIn free (getD vs (c .segment) 0) n i) (to : Cursor)
+          (a : There us cs vs to (c .place + i)) where
+        pub reached-on : Reached s us cs vs paid to
+        reached-on =
+            let here = value-there us cs vs c o i (omega (arith, u .within)) to a in
+            let low = low↔ (s .price) (t .value) (to .value) (s .buyer) paid .1 (omega (arith, u .enough)) in
+            record { at = a .at; low = rw (← lower-at to (a .at)) low }
 
-        pub few : n < 2 ^ 16 → free < 2 ^ 16 * getD vs (c .segment) 0
-        few l = omega (arith, too-many, mul-le-mul-right {m = n} {n = 2 ^ 16} (getD vs (c .segment) 0) (omega arith))
+        pub stops : i < n → Delivered s us cs vs paid to
+        stops l =
+            let next : c .value + suc i * getD vs (c .segment) 0 ≡ sumTo (spread us vs) (suc (to .place)) =
+            let g : suc (to .place) ≡ c .place + suc i = omega (arith, a .place-is) in
+            rw g (value-on us cs vs c o (suc i) (omega arith)) in
+            let not : leZ (dealAlong s us cs vs .lower (suc (to .place))) (pos paid) ≡ false =
+            not-so _
+            (λ y.
+            let g = low↔ (s .price) (t .value) (sumTo (spread us vs) (suc (to .place))) (s .buyer) paid .0 (rw (k .value-is) (leZ-true _ _ .0 y)) in
+            omega (arith, u .most l)) in
+            record { at = a .at; reached = reach-is paid (to .place) (a .at .within) (reached-on .low) (λ _. not) }
 
-        pub fewer : (i : ℕ) → i * getD vs (c .segment) 0 ≤ free → c .used + suc i ≤ getD us (c .segment) 0
-        fewer i l =
-            let g : i < n = lt-of-mul-lt-mul-right (getD vs (c .segment) 0) {m = i} {n = n} (omega (arith, too-many)) in
-            omega arith
-
-      -- i units are not too many, and one more is
-      pub stops : (i : ℕ) → i * getD vs (c .segment) 0 ≤ free → free < (i + 1) * getD vs (c .segment) 0 → c .used + suc i ≤ getD us (c .segment) 0
-          → (to : Cursor) → There us cs vs to (c .place + i) → Delivered s us cs vs paid to
-      stops i few many l to a =
-          let d = dealAlong s us cs vs in
-          let here = value-there us cs vs c o i (omega arith) to a in
-          let next : c .value + suc i * getD vs (c .segment) 0 ≡ sumTo (spread us vs) (suc (to .place)) =
-          let g : suc (to .place) ≡ c .place + suc i = omega (arith, a .place-is) in
-          rw g (value-on us cs vs c o (suc i) l) in
-          let low : d .lower (to .place) ≤ℤ pos paid =
-          rw (← lower-at to (a .at)) (low↔ (s .price) (t .value) (to .value) (s .buyer) paid .1 (omega arith)) in
-          let not : leZ (d .lower (suc (to .place))) (pos paid) ≡ false =
-          not-so _
-          (λ y.
-          let g = low↔ (s .price) (t .value) (sumTo (spread us vs) (suc (to .place))) (s .buyer) paid .0 (rw (k .value-is) (leZ-true _ _ .0 y)) in
-          omega arith) in
-          record { at = a .at; reached = reach-is paid (to .place) (a .at .within) low (λ _. not) }
-
-      pub stops-here : At us cs vs c → free < getD vs (c .segment) 0 → Delivered s us cs vs paid c
-      stops-here a l = stops 0 (omega arith) (omega arith) (omega (arith, a .left (o .more))) c (record { at = a; place-is = omega arith })
+      pub stops-here : free < getD vs (c .segment) 0 → Delivered s us cs vs paid c
+      stops-here l =
+          let some = o .at .left (o .more) in
+          stops (getD us (c .segment) 0 - c .used) (omega arith) 0 (record { within = omega arith; enough = omega arith; most = λ _. omega arith }) c
+          (record { at = o .at; place-is = omega arith }) (omega arith)
 
     pub stops-last : (paid : ℕ) (c : Cursor) → Reached s us cs vs paid c → t .units ≤ c .place → Delivered s us cs vs paid c
     stops-last paid c r h =

@@ -14,10 +14,10 @@ use Rattle.line.specs.Segments.{spread, fits, dealAlong}
 use Rattle.line.specs.BoundsPromise.{hasPlace}
 use Rattle.line.specs.Code.{Fit, Known, Sums, At, Open, There, origin}
 use Rattle.line.specs.CheckCode.{Ahead, cursorBounds}
-use Rattle.line.specs.declared.place.Cursor.{Cursor}
+use Rattle.line.specs.declared.Cursor.{Cursor}
 use Rattle.exchange.specs.declared.Sides.{Sides}
 use Rattle.line.specs.declared.sums.Summed.{Summed}
-use Rattle.line.specs.declared.sums.Totals.{Totals}
+use Rattle.line.specs.declared.Totals.{Totals}
 use Rattle.line.proofs.SegmentLaws.{at-origin, fits↔, not-so}
 
 -- ---- the answer of the sum

@@ -30,8 +30,8 @@ use Rattle.exchange.proofs.GivenOrder.Run.{run, run-add, state-eq}
 use Rattle.line.specs.Segments.{spread, fits, dealAlong}
 use Rattle.line.specs.Promise.{Success, suits}
 use Rattle.line.specs.Code.{Fit, Known, At, Reached, Delivered, origin, Holds, Ready, Written, Room, stateAt}
-use Rattle.line.specs.declared.place.Cursor.{Cursor}
-use Rattle.line.specs.declared.sums.Totals.{Totals}
+use Rattle.line.specs.declared.Cursor.{Cursor}
+use Rattle.line.specs.declared.Totals.{Totals}
 use Rattle.line.proofs.SegmentLaws.{at-origin, fits↔, not-so}
 use Rattle.line.proofs.DealLaws.{rising, on-line, upper-at}
 

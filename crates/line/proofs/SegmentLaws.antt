@@ -15,8 +15,8 @@ use Rattle.exchange.specs.Forms.{along}
 use Rattle.exchange.proofs.FormLaws.{along-rises}
 use Rattle.line.specs.Segments.{spread, allHave, fits}
 use Rattle.line.specs.Code.{sumTo, Fit, Known, At, Open, There, origin}
-use Rattle.line.specs.declared.place.Cursor.{Cursor}
-use Rattle.line.specs.declared.sums.Totals.{Totals}
+use Rattle.line.specs.declared.Cursor.{Cursor}
+use Rattle.line.specs.declared.Totals.{Totals}
 
 -- ---- sums
 
@@ -108,6 +108,26 @@ segments-few [] e = omega arith
 segments-few (u ∷ us) e =
     let h = and-eq-true-iff (ltb 0 u) (allHave us) .0 e in
     omega (arith, ltb-true 0 u (h .0), segments-few us (h .1))
+
+-- ---- segments of one unit each
+
+pub spread-ones : (n : ℕ) (xs : List ℕ) → length xs ≡ n → spread (replicate n 1) xs ≡ xs
+unfolding spread
+spread-ones zero [] e = refl
+spread-ones zero (x ∷ xs) e = absurd (omega arith)
+spread-ones (suc n) [] e = absurd (omega arith)
+spread-ones (suc n) (x ∷ xs) e = ap (λ (r : List ℕ). x ∷ r) (spread-ones n xs (omega arith))
+
+pub have-ones : (n : ℕ) → allHave (replicate n 1) ≡ true
+unfolding allHave
+have-ones zero = refl
+have-ones (suc n) = have-ones n
+
+pub sum-ones : (n k : ℕ) → k ≤ n → sumTo (replicate n 1) k ≡ k
+unfolding along
+sum-ones zero k h = omega arith
+sum-ones (suc n) zero h = refl
+sum-ones (suc n) (suc k) h = omega (arith, sum-ones n k (omega arith))
 
 -- ---- segments that fit
 

@@ -15,9 +15,9 @@ use Rattle.exchange.specs.Possible.{Possible}
 use Rattle.exchange.specs.declared.Bounds.{Bounds}
 use Rattle.exchange.specs.declared.Sides.{Sides}
 use Rattle.line.specs.Segments.{spread, fits, allHave, dealAlong}
-use Rattle.line.specs.declared.place.Cursor.{Cursor}
+use Rattle.line.specs.declared.Cursor.{Cursor}
 use Rattle.line.specs.declared.sums.Summed.{Summed}
-use Rattle.line.specs.declared.sums.Totals.{Totals}
+use Rattle.line.specs.declared.Totals.{Totals}
 
 -- the sum of the first k numbers
 abbrev pub sumTo : List ℕ → ℕ → ℕ
@@ -70,6 +70,12 @@ origin = record { place = 0; segment = 0; used = 0; cost = 0; value = 0 }
 -- whether the lower bound of a place with this value is at most the upper bound of one with this cost, by the totals
 abbrev pub meet : Sides → Totals → ℕ → ℕ → Bool
 meet s t cost value = leZ (lowerOf (s .price) (t .value) value (s .buyer)) (upperOf (s .price) (t .cost) cost (s .supplier))
+
+-- r of n units of one value make no more than a limit, and one unit more would
+pub record UnitsIn (limit value n r : ℕ) : Type 0 where
+  pub within : r ≤ n
+  pub enough : r * value ≤ limit
+  pub most : r < n → limit < (r + 1) * value
 
 -- the cursor's place has a lower bound of at most what is paid
 pub record Reached (s : Sides) (us cs vs : List ℕ) (paid : ℕ) (c : Cursor) : Type 0 where

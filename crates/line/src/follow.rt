@@ -1,37 +1,13 @@
 // Follows a brought plan along the segments.
-ghost use mathlib.Core.Path.{_≡_};
-ghost use mathlib.Core.Bool.{true};
-ghost use Prim.Native.Nat.{_≤_};
 ghost use Rattle.exchange.specs.PlanIn.{planIn};
-ghost use Rattle.exchange.specs.Test.{stepTest};
 ghost use Rattle.line.specs.Segments.{dealAlong};
-ghost use Rattle.line.specs.CheckCode.{Brought, Judges, cursorBounds};
-use super::affords;
+ghost use Rattle.line.specs.CheckCode.{Brought, Judges};
+use super::Totals;
 use super::arrived;
-use super::place::Cursor;
+use super::is_step;
 use super::place::advance;
 use super::place::first;
-use super::reaches;
-use super::sums::Totals;
 use exchange::Sides;
-
-// Whether it is a step from one cursor with p paid on to a later one with q paid: all four states are safe.
-// Both bounds rise on the way, so the lower bound of the later and the upper bound of the earlier decide.
-fn is_step(sides: Sides, t: Totals, from: Cursor, to: Cursor, p: u32, q: u32) -> bool
-    requires { ⌜ (from .cost ≤ to .cost) × (from .value ≤ to .value) ⌝ }
-    ensures { λ r. ⌜ r ≡ stepTest true (cursorBounds sides t from) (cursorBounds sides t to) p q (sides .price) ⌝ }
-{
-    if q < p {
-        return false;
-    }
-    if sides.price < q {
-        return false;
-    }
-    if !reaches(sides, t, to.value, p) {
-        return false;
-    }
-    affords(sides, t, from.cost, q)
-}
 
 // Whether the first entries of the areas are steps from the start to the end.
 pub(crate) fn follows(
@@ -60,7 +36,7 @@ pub(crate) fn follows(
             return false;
         }
         let to = advance(units, costs, values, c, place);
-        if !is_step(sides, t, c, to, paid, sum) {
+        if !is_step(sides, t, c.cost, to.value, paid, sum) {
             return false;
         }
         c = to;

@@ -1,7 +1,7 @@
 // Plans a deal along one order, given as segments: runs of units with one cost and one value.
 ghost use mathlib.Core.Path.{_≡_};
 ghost use mathlib.Core.Bool.{_&&_};
-ghost use Prim.Native.Nat.{_+_, _*_, _-_, min, _≤_, _<_, _^_};
+ghost use Prim.Native.Nat.{_+_, _-_, min, _≤_, _<_, _^_};
 ghost use lib.Dec.{eqb};
 ghost use lib.IntN.{pos};
 ghost use lib.Signed.{leZ};
@@ -14,7 +14,8 @@ ghost use Rattle.line.specs.Segments.{dealAlong};
 ghost use Rattle.line.specs.Promise.{Plans, Success};
 ghost use Rattle.line.specs.BoundsPromise.{BoundsOf};
 ghost use Rattle.line.specs.CheckPromise.{Checks};
-ghost use Rattle.line.specs.Code.{Known, Reached, Delivered, Decides, Ready, Written, startBounds, meet};
+ghost use Rattle.line.specs.CheckCode.{passes};
+ghost use Rattle.line.specs.Code.{Known, Reached, Delivered, Decides, Ready, Written, UnitsIn, startBounds, meet};
 
 mod follow;
 mod place;
@@ -22,18 +23,32 @@ mod sums;
 
 use exchange::Planned;
 use exchange::Sides;
-use place::Cursor;
 use place::advance;
 use place::bounds_at;
 use place::first;
 use place::leap;
 use place::left;
 use sums::Summed;
-use sums::Totals;
 use sums::add_up;
 
+// All units, and their cost and value together.
+pub struct Totals {
+    pub units: usize,
+    pub cost: u32,
+    pub value: u32,
+}
+
+// A place along the segments: the segment of its next unit, how many units of that are delivered, and the cost and value so far.
+pub struct Cursor {
+    pub place: usize,
+    pub segment: usize,
+    pub used: u16,
+    pub cost: u32,
+    pub value: u32,
+}
+
 // What is paid at a place: the smaller of its upper bound and the price.
-fn pay(sides: Sides, t: Totals, cost: u32) -> u32
+pub fn pay(sides: Sides, t: Totals, cost: u32) -> u32
     ensures { λ r. ⌜ r ≡ min (coins (upperOf (sides .price) (t .cost) cost (sides .supplier))) (sides .price) ⌝ }
 {
     let hi = exchange::upper(sides.price, t.cost, cost, sides.supplier);
@@ -47,21 +62,38 @@ fn pay(sides: Sides, t: Totals, cost: u32) -> u32
 }
 
 // Whether a place's lower bound is at most what is paid.
-fn reaches(sides: Sides, t: Totals, value: u32, paid: u32) -> bool
+pub fn reaches(sides: Sides, t: Totals, value: u32, paid: u32) -> bool
     ensures { λ r. ⌜ r ≡ leZ (lowerOf (sides .price) (t .value) value (sides .buyer)) (pos paid) ⌝ }
 {
     exchange::lower(sides.price, t.value, value, sides.buyer) <= paid as i64
 }
 
 // Whether what is paid is at most a place's upper bound.
-fn affords(sides: Sides, t: Totals, cost: u32, paid: u32) -> bool
+pub fn affords(sides: Sides, t: Totals, cost: u32, paid: u32) -> bool
     ensures { λ r. ⌜ r ≡ leZ (pos paid) (upperOf (sides .price) (t .cost) cost (sides .supplier)) ⌝ }
 {
     paid as i64 <= exchange::upper(sides.price, t.cost, cost, sides.supplier)
 }
 
+// Whether it is a step from a place of this cost with p paid to a later place of this value with q paid: all four states are safe.
+// Both bounds rise on the way, so the lower bound of the later and the upper bound of the earlier decide.
+pub fn is_step(sides: Sides, t: Totals, cost: u32, value: u32, p: u32, q: u32) -> bool
+    ensures { λ r. ⌜ r ≡ passes sides t cost value p q ⌝ }
+{
+    if q < p {
+        return false;
+    }
+    if sides.price < q {
+        return false;
+    }
+    if !reaches(sides, t, value, p) {
+        return false;
+    }
+    affords(sides, t, cost, q)
+}
+
 // Whether the lower bound of a place with this value is at most the upper bound of one with this cost.
-fn meets(sides: Sides, t: Totals, cost: u32, value: u32) -> bool
+pub fn meets(sides: Sides, t: Totals, cost: u32, value: u32) -> bool
     ensures { λ r. ⌜ r ≡ meet sides t cost value ⌝ }
 {
     let lo = exchange::lower(sides.price, t.value, value, sides.buyer);
@@ -70,7 +102,7 @@ fn meets(sides: Sides, t: Totals, cost: u32, value: u32) -> bool
 }
 
 // Whether the start is safe.
-fn start_safe(sides: Sides, t: Totals) -> bool
+pub fn start_safe(sides: Sides, t: Totals) -> bool
     ensures { λ r. ⌜ r ≡ safeTest 0 (startBounds sides t) (sides .price) ⌝ }
 {
     let lower = exchange::lower(sides.price, t.value, 0, sides.buyer);
@@ -79,7 +111,7 @@ fn start_safe(sides: Sides, t: Totals) -> bool
 }
 
 // Whether a state is the end of the deal.
-fn arrived(place: usize, paid: u32, last: usize, price: u32) -> bool
+pub fn arrived(place: usize, paid: u32, last: usize, price: u32) -> bool
     ensures { λ r. ⌜ r ≡ (eqb place last && eqb paid price) ⌝ }
 {
     place == last && paid == price
@@ -125,15 +157,22 @@ fn slack(sides: Sides, t: Totals, value: u32, paid: u32) -> u64
     paid as u64 + (t.value as u64 + sides.buyer as u64) - (sides.price as u64 + value as u64)
 }
 
-// How many units of one value make no more than an amount.
-fn units_in(amount: u64, value: u32) -> u16
-    requires { ⌜ amount < 2 ^ 16 * value ⌝ }
-    ensures { λ r. ⌜ (r * value ≤ amount) × (amount < (r + 1) * value) ⌝ }
+// How many of n units of one value make no more than a limit: mostly one or all, which needs no division.
+fn units_in(limit: u64, value: u32, n: u16) -> u16
+    requires { ⌜ (value ≤ limit) × (0 < n) ⌝ }
+    ensures { λ r. ⌜ UnitsIn limit value n r ⌝ }
 {
-    (amount / value as u64) as u16
+    let each = value as u64;
+    if limit < 2 * each {
+        return 1;
+    }
+    if sums::amount(n, value) <= limit {
+        return n;
+    }
+    (limit / each) as u16
 }
 
-// On to the greatest place whose lower bound is at most what is paid. Mostly the next unit is too much already, which needs no division.
+// On to the greatest place whose lower bound is at most what is paid. Mostly the next unit is too much already.
 fn deliver(
     sides: Sides,
     t: Totals,
@@ -154,11 +193,13 @@ fn deliver(
         if free < value as u64 {
             return c;
         }
-        let whole = leap(units, costs, values, c, left(units, c));
-        if !reaches(sides, t, whole.value, paid) {
-            return leap(units, costs, values, c, units_in(free, value));
+        let n = left(units, c);
+        let k = units_in(free, value, n);
+        let to = leap(units, costs, values, c, k);
+        if k < n {
+            return to;
         }
-        c = whole;
+        c = to;
     }
     c
 }

@@ -4,17 +4,9 @@ ghost use Prim.Native.Nat.{_+_, _≤_, _<_};
 ghost use lib.ListN.{length, getD};
 ghost use Rattle.line.specs.Code.{Open, There, origin};
 ghost use Rattle.line.specs.CheckCode.{Ahead, cursorBounds};
-use super::sums::Totals;
+use super::Cursor;
+use super::Totals;
 use exchange::Sides;
-
-// A place along the segments: the segment of its next unit, how many units of that are delivered, and the cost and value so far.
-pub(crate) struct Cursor {
-    pub place: usize,
-    pub segment: usize,
-    pub used: u16,
-    pub cost: u32,
-    pub value: u32,
-}
 
 // Nothing delivered.
 pub(crate) fn first() -> Cursor

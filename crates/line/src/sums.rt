@@ -4,13 +4,7 @@ ghost use Prim.Native.Nat.{_*_, _<_, _^_};
 ghost use lib.ListN.{length};
 ghost use Rattle.line.specs.Segments.{spread, allHave};
 ghost use Rattle.line.specs.Code.{sumTo, Sums};
-
-// All units, and their cost and value together.
-pub(crate) struct Totals {
-    pub units: usize,
-    pub cost: u32,
-    pub value: u32,
-}
+use super::Totals;
 
 // The totals of segments that fit.
 pub(crate) enum Summed {
@@ -41,7 +35,7 @@ fn wide(u: u16) -> u32
 }
 
 // An amount of u units.
-fn amount(u: u16, a: u32) -> u64
+pub(crate) fn amount(u: u16, a: u32) -> u64
     ensures { λ r. ⌜ (r ≡ u * a) × (r < 2 ^ 48) ⌝ }
 {
     u as u64 * a as u64

@@ -1,4 +1,4 @@
--- Segments that stand for a deal: those of a ladder, and those of unit prices along the order that bytes name. Assumes nothing.
+-- Segments that stand for a deal: those of unit prices along the order that bytes name. Assumes nothing.
 use mathlib.Core.Path.{_≡_, refl, sym, ap, _∙_, subst}
 use mathlib.Core.Bool.{Bool, true, false, not, _&&_, and-eq-true-iff}
 use mathlib.Core.List.{List, [], _∷_}
@@ -6,15 +6,14 @@ use Prim.Native.Nat.{ℕ, zero, suc, _-_, _≤_}
 use native.Mathlib.Nat.{sub-zero}
 use native.Mathlib.Omega.{arith}
 use lib.Dec.{leb}
-use lib.ListN.{length, take, replicate, length-map}
+use lib.ListN.{length, take, length-map}
 use lib.Seq.{take-take}
 use borrow.Author.Tests.{le-leb, not-true, not-false}
 use Rattle.area.specs.Entries.{entries}
 use Rattle.contract.specs.Res.{Res, ok}
 use Rattle.contract.specs.Valid.{Valid, sum}
-use Rattle.contract.specs.declared.Form.the-variants.{Ladder, UnitPrices}
+use Rattle.contract.specs.declared.Form.the-variants.{UnitPrices}
 use Rattle.exchange.specs.Deal.{Deal, State}
-use Rattle.exchange.specs.Forms.{ladder}
 use Rattle.exchange.specs.Test.{boundsAt}
 use Rattle.exchange.specs.declared.Bounds.{Bounds}
 use Rattle.exchange.specs.declared.Sides.{Sides}
@@ -27,8 +26,6 @@ use Rattle.order.proofs.NamedLaws.{picked-take, names-split}
 use Rattle.planning.specs.Deals.{contractWith}
 use Rattle.planning.specs.Order.{orderIn, dealBy}
 use Rattle.planning.specs.Check.{holdsCount}
-use Rattle.planning.proofs.SegmentJoin.{ladder-deal}
-use Rattle.planning.proofs.LadderPlan.{few-units, ones-fit}
 use Rattle.planning.proofs.NamedOrder.{few-items, named-deal, named-units, named-fits}
 use Rattle.planning.specs.Judged.{Judges}
 
@@ -60,21 +57,6 @@ module _ (s : Sides) (us cs vs : List ℕ) (d : Deal) (a : Along s us cs vs d) w
 
   pub along-judges : (xs : List State) (r : Res (Unit {0})) → Judges (dealAlong s us cs vs) xs r → Judges d xs r
   along-judges xs r j = subst (λ (y : Deal). Judges y xs r) (a .deal-is) j
-
--- ---- a ladder
-
-pub take-replicate : (n m a : ℕ) → n ≤ m → take n (replicate m a) ≡ replicate n a
-take-replicate zero m a h = refl
-take-replicate (suc n) zero a h = absurd (omega arith)
-take-replicate (suc n) (suc m) a h = ap (λ (r : List ℕ). a ∷ r) (take-replicate n m a (omega arith))
-
-module _ (s : Sides) (cs vs : List ℕ) (v : Valid (contractWith Ladder s [] cs vs)) where
-  -- one unit of each
-  pub ladder-along : {ones : List ℕ} → ones ≡ replicate 1000 1 → Along s (take (length cs - 0) ones) cs vs (ladder s cs vs)
-  ladder-along {ones} o =
-      let e : take (length cs - 0) ones ≡ replicate (length cs) 1 =
-      rw (sub-zero (length cs), o) (take-replicate (length cs) 1000 1 (few-units s cs vs v)) in
-      rw e (record { fit = ones-fit s cs vs v; deal-is = ladder-deal s cs vs (v .values-counted) })
 
 -- ---- unit prices
 

@@ -12,7 +12,7 @@ use Rattle.grid.specs.Rows.{rowsOf}
 use Rattle.contract.specs.Contract.{Contract, contractOf}
 use Rattle.contract.specs.Valid.{Valid}
 use Rattle.contract.specs.declared.Header.{Header}
-use Rattle.contract.specs.declared.Form.the-variants.{Ladder, UnitPrices, Table}
+use Rattle.contract.specs.declared.Form.the-variants.{UnitPrices, Table}
 use Rattle.exchange.specs.declared.Sides.{Sides}
 use Rattle.planning.specs.Deals.{contractWith}
 use Rattle.planning.proofs.TablePlan.{few-rows, costs-rows, values-rows}
@@ -34,23 +34,6 @@ module _ (h : Header) (cs vs : List ℕ) (s : Stands h cs vs) where
   -- P and the defection costs of the header
   abbrev sides : Sides
   sides = record { price = h .price; supplier = h .supplier; buyer = h .buyer }
-
-  -- the contract of a ladder
-  module _ (e : h .form ≡ Ladder) where
-    pub ladder-is : contractOf h cs vs ≡ contractWith Ladder sides [] (take (n - 0) cs) (take (n - 0) vs)
-    ladder-is = rw (e, sub-zero n) refl
-
-    pub ladder-valid : Valid (contractWith Ladder sides [] (take (n - 0) cs) (take (n - 0) vs))
-    ladder-valid = subst Valid ladder-is (s .valid)
-
-    costs-all : length (take n cs) ≡ n
-    costs-all = rw e at (ap (λ (x : Header). x .count) (s .own-header))
-
-    pub ladder-costs : n ≤ length cs
-    ladder-costs = within n cs costs-all
-
-    pub ladder-values : n ≤ length vs
-    ladder-values = within n vs (rw (sub-zero n) at (ladder-valid .values-counted) ∙ costs-all)
 
   -- the contract of unit prices
   module _ (e : h .form ≡ UnitPrices) where

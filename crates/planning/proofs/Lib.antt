@@ -1,13 +1,14 @@
 -- a contract that was read, and its parts by its form
 pub mod ReadLaws
 pub mod FormArms
--- a ladder and an order of items as segments
+-- an order of items as segments
 pub mod SegmentJoin
 pub mod NamedOrder
 pub mod AlongOrder
 -- from what the planners below answer to the promise
 pub mod LinePlan
 pub mod Outcome
+pub mod LadderFound
 pub mod LadderPlan
 pub mod PricesPlan
 pub mod TablePlan

@@ -1,4 +1,4 @@
--- What the answer of the reader says of the record, where both areas have room for 1,000 entries. Assumes nothing.
+-- What the answer of the reader says of the record, where both areas have room for 128 entries and the record is no ladder's. Assumes nothing.
 use mathlib.Core.Path.{_≡_, refl, sym, ap, _∙_, subst}
 use mathlib.Core.List.{List}
 use Prim.Native.Nat.{ℕ, _<_}
@@ -16,6 +16,7 @@ use Rattle.contract.proofs.Refusals.{refusal-number}
 use Rattle.record.specs.Promise.{Answer, Reads, replyOf}
 use Rattle.record.specs.declared.Reply.{Reply}
 use Rattle.record.specs.declared.Outcome.{Outcome}
+use Rattle.record.specs.Find.{NoLadder}
 use Rattle.planning.specs.Stands.{Stands}
 
 -- no refusal has number 0
@@ -29,12 +30,12 @@ some-number Falling = omega arith
 some-number Trailing = omega arith
 some-number Short = omega arith
 
-module _ (bytes costs values : List ℕ) (many-costs : length costs ≡ 1000) (many-values : length values ≡ 1000) (r : Outcome)
-    (costs′ values′ : List ℕ) (h : Reads (reading bytes (length costs) (length values)) costs values r costs′ values′) where
+module _ (bytes costs values : List ℕ) (other : NoLadder bytes) (many-costs : length costs ≡ 128) (many-values : length values ≡ 128)
+    (r : Outcome) (costs′ values′ : List ℕ) (h : Reads (reading bytes (length costs) (length values)) costs values r costs′ values′) where
   -- what the record says is what was read
   said : Reads (parse bytes) costs values r costs′ values′
   said =
-      let e : reading bytes (length costs) (length values) ≡ parse bytes = rw (many-costs, many-values) (reading-all bytes) in
+      let e : reading bytes (length costs) (length values) ≡ parse bytes = rw (many-costs, many-values) (reading-all bytes other) in
       subst (λ (x : Res Contract). Reads x costs values r costs′ values′) e h
 
   -- a refusal is the record's

@@ -1,4 +1,4 @@
--- A ladder and an order of items as segments: the deal along them is the contract's, and they fit the planner's numbers. Assumes nothing.
+-- An order of items as segments: the deal along them is the contract's, and they fit the planner's numbers. Assumes nothing.
 use mathlib.Core.Path.{_≡_, refl, sym, ap, _∙_, fun-ext}
 use mathlib.Core.Bool.{true}
 use mathlib.Core.List.{List, [], _∷_, map, map-append}
@@ -15,11 +15,6 @@ use Rattle.exchange.specs.declared.Sides.{Sides}
 use Rattle.line.specs.Segments.{spread, dealAlong, allHave, fits, totalOf}
 
 -- ---- the amounts of every unit
-
-pub spread-ones : (cs : List ℕ) → spread (replicate (length cs) 1) cs ≡ cs
-unfolding spread
-spread-ones [] = refl
-spread-ones (a ∷ cs) = ap (λ (r : List ℕ). a ∷ r) (spread-ones cs)
 
 map-replicate : (f : ℕ → ℕ) (n j : ℕ) → map f (replicate n j) ≡ replicate n (f j)
 map-replicate f zero j = refl
@@ -42,11 +37,6 @@ along-map f (j ∷ σ) (suc k) = ap (λ (n : ℕ). f j + n) (along-map f σ k)
 
 -- ---- the deals
 
-pub ladder-deal : (s : Sides) (cs vs : List ℕ) → length vs ≡ length cs → dealAlong s (replicate (length cs) 1) cs vs ≡ ladder s cs vs
-ladder-deal s cs vs e =
-    let v : spread (replicate (length cs) 1) vs ≡ vs = rw (← e) (spread-ones vs) in
-    rw (spread-ones cs, v) refl
-
 -- the deal along items, each with all its units together
 pub order-deal : (s : Sides) (us cs vs items : List ℕ)
     → dealAlong s (map (at us) items) (map (at cs) items) (map (at vs) items) ≡ inOrder s cs vs (together us items)
@@ -61,28 +51,6 @@ pub fit : (us cs vs : List ℕ) → length cs ≡ length us → length vs ≡ le
     → totalOf us cs < 2 ^ 32 → totalOf us vs < 2 ^ 32 → fits us cs vs ≡ true
 unfolding fits
 fit us cs vs c v h n x y = rw (eq-eqb _ _ c, eq-eqb _ _ v, h, lt-ltb _ _ n, lt-ltb _ _ x, lt-ltb _ _ y) refl
-
--- the total of a ladder
-total-ones : (xs : List ℕ) → along (λ a. a) xs (length xs) ≡ total (replicate (length xs) 1) xs
-unfolding along total
-total-ones [] = refl
-total-ones (a ∷ xs) = omega (arith, total-ones xs)
-
-have-ones : (n : ℕ) → allHave (replicate n 1) ≡ true
-unfolding allHave
-have-ones zero = refl
-have-ones (suc n) = have-ones n
-
--- a ladder fits if its units and totals are few
-pub ladder-fits : (cs vs : List ℕ) → length vs ≡ length cs → length cs ≤ 1000 → total (replicate (length cs) 1) cs ≤ limit
-    → total (replicate (length vs) 1) vs ≤ limit → fits (replicate (length cs) 1) cs vs ≡ true
-ladder-fits cs vs e n x y =
-    let ones : List ℕ = replicate (length cs) 1 in
-    let l : length ones ≡ length cs = length-replicate {A = ℕ} (length cs) 1 in
-    let c : spread ones cs ≡ cs = spread-ones cs in
-    let v : spread ones vs ≡ vs = rw (← e) (spread-ones vs) in
-    fit ones cs vs (sym l) (e ∙ sym l) (have-ones (length cs)) (rw c (omega arith)) (rw (c, total-ones cs) (omega arith))
-    (rw (v, total-ones vs) (omega arith))
 
 -- the total over all items, whatever their order
 total-next : (u a : ℕ) (us xs : List ℕ) (n : ℕ)

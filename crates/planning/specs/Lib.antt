@@ -8,4 +8,5 @@ pub mod Bounds
 pub mod Check
 -- a contract that was read, and a plan that is judged
 pub mod Stands
+pub mod Found
 pub mod Judged

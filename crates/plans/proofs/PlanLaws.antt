@@ -7,11 +7,12 @@ use Prim.Native.Nat.{ℕ, _-_, _+_, _*_, _≤_, _<_}
 use native.Mathlib.Nat.{mul-le-mul-right}
 use native.Mathlib.Omega.{arith}
 use lib.ListN.{length, replicate, take, drop}
+use Rattle.area.proofs.Laws.{column-length}
 use Rattle.contract.specs.Res.{refused, ok, bind}
 use Rattle.contract.specs.Contract.{Contract}
 use Rattle.contract.specs.Parse.{parse}
 use Rattle.contract.specs.Valid.{Valid}
-use Rattle.contract.specs.declared.Form.the-variants.{Ladder, UnitPrices, Table}
+use Rattle.contract.specs.declared.Form.the-variants.{UnitPrices, Table}
 use Rattle.contract.specs.declared.Refusal.the-variants.{Short}
 use Rattle.exchange.specs.Deal.{Deal}
 use Rattle.exchange.specs.Choice.{choose}
@@ -21,18 +22,24 @@ use Rattle.exchange.specs.declared.Sides.{Sides}
 use Rattle.search.specs.Promise as search
 use Rattle.choice.specs.Promise.{numbered, answerTo, chosenFor}
 use Rattle.choice.specs.declared.Chosen.{Chosen}
+use Rattle.line.specs.Promise as line
 use Rattle.line.specs.Segments.{dealAlong}
+use Rattle.ladder.specs.Rises.{Lies, Room, dealIn}
+use Rattle.ladder.specs.declared.Ladder as ladder
+use Rattle.record.specs.Find.{LadderFound, ladderIn}
+use Rattle.record.specs.declared.Ladder.{Ladder}
 use Rattle.order.specs.Bytes.{picked}
 use Rattle.planning.specs.Deals.{contractWith, NoPlan}
 use Rattle.planning.specs.Areas.{Areas, areas, hasRoom, roomFor, workCleared}
 use Rattle.planning.specs.Promise.{roomed, ahead, Plans}
 use Rattle.planning.proofs.Outcome.{room, short-said, room-said}
-use Rattle.planning.proofs.AlongOrder.{take-replicate}
-use Rattle.planning.proofs.LadderPlan.{few-units, ladder-suits, ladder-none, ladder-success}
+use Rattle.planning.specs.Found.{ladderOf}
+use Rattle.planning.proofs.LadderFound.{lies}
+use Rattle.planning.proofs.LadderPlan.{ladder-none, ladder-success}
 use Rattle.planning.proofs.NamedOrder as prices
 use Rattle.planning.proofs.PricesPlan.{found-items, found-none, chosen-is, prices-none, prices-suit, prices-blocked, prices-success}
 use Rattle.planning.proofs.TablePlan.{few-items, costs-rows, few-rows, cells-rise, table-suits, table-none, table-success}
-use Rattle.plans.proofs.AlongLaws.{search-steps, search-none, search-unfit, only-work}
+use Rattle.plans.proofs.AlongLaws.{line-steps, line-none, line-unfit, search-steps, search-none, search-unfit, only-work}
 use Rattle.planning.specs.Answer.{answerOf}
 use Rattle.sizes.specs.Units.{unitsFew}
 use Rattle.sizes.proofs.UnitLaws.{units-few}
@@ -45,24 +52,40 @@ too-short k a e = record { plans = short-said k a e }
 
 -- ---- a ladder
 
-module _ (s : Sides) (cs vs : List ℕ) (v : Valid (contractWith Ladder s [] cs vs)) (ones : List ℕ) (e : ones ≡ replicate 1000 1) where
-  abbrev ladderOf : Contract
-  ladderOf = contractWith Ladder s [] cs vs
+-- the room that a ladder needs, by the number of the code
+pub ladder-room : (s : List ℕ) (l : Ladder) (a : Areas) (b : Bool) → b ≡ hasRoom (l .count) 0 a → b ≡ roomFor (ladderIn s l) a
+ladder-room s l a b h = h ∙ rw (column-length 4 s (l .first) 8 (l .count)) refl
 
-  taken : take (length cs - 0) ones ≡ replicate (length cs) 1
-  taken = let z : length cs - 0 ≡ length cs = omega arith in rw (e, z) (take-replicate (length cs) 1000 1 (few-units s cs vs v))
+module _ (s : List ℕ) (l : Ladder) (f : LadderFound s l) (x : ladder.Ladder) (ex : x ≡ ladderOf l) (p q o w : List ℕ)
+    (h : roomFor (ladderIn s l) (areas p q o w) ≡ true) where
+  -- its rises lie in the record, and the areas have room
+  pub ladder-can : Lies x s × Room x p q
+  ladder-can =
+      let n = column-length 4 s (l .first) 8 (l .count) in
+      let r = room _ _ _ h in
+      rw ex (lies s l f, record { places-room = omega (arith, n, r .places); sums-room = omega (arith, n, r .sums) })
 
-  pub ladder-can : (a : Areas) → roomFor ladderOf a ≡ true → CanPlan (take (length cs - 0) ones) cs vs a
-  ladder-can a h = record { suit = rw taken (ladder-suits s cs vs v a h); eight = room _ _ a h .order }
+  module _ (p′ q′ : List ℕ) (r : exchange.Planned) (g : line.Answers (dealIn x s) true r p q p′ q′) where
+    said-along : line.Answers (dealIn (ladderOf l) s) true r p q p′ q′
+    said-along = rw ex at g
 
-  pub ladder-plans : (a a′ : Areas) → roomFor ladderOf a ≡ true → (r : Planned)
-      → AlongSays (dealAlong s (take (length cs - 0) ones) cs vs) (replicate 8 0) r a a′ → PlansOf ladderOf r a a′
-  ladder-plans a a′ h r g = go r (rw taken at (g .says))
-    where
-      go : (r : Planned) → AlongAnswers (dealAlong s (replicate (length cs) 1) cs vs) (replicate 8 0) r a a′ → PlansOf ladderOf r a a′
-      go (Planned.Refused x) g = absurd g
-      go Planned.Impossible g = record { plans = room-said ladderOf (refused 9) a a′ h (refl, (ladder-none s cs vs v (g .0), g .1)) }
-      go (Planned.Steps n) g = record { plans = room-said ladderOf (ok n) a a′ h (ladder-success s cs vs v n a a′ h (g .0) (g .1 .0) (g .1 .1)) }
+    pub ladder-plans : (n : ℕ) → r ≡ exchange.Planned.Steps n → (o′ w′ : List ℕ) → o′ ≡ replicate 8 0 ++ drop 8 o → w′ ≡ replicate (length w) 0
+        → PlansOf (ladderIn s l) (Planned.Steps n) (areas p q o w) (areas p′ q′ o′ w′)
+    ladder-plans n e o′ w′ eo ew =
+        let laid = line-steps _ _ r p q p′ q′ said-along n e in
+        record { plans = room-said (ladderIn s l) (ok n) _ _ h (ladder-success _ _ _ n (areas p q o w) (areas p′ q′ o′ w′) h laid eo ew) }
+
+    pub ladder-impossible : r ≡ exchange.Planned.Impossible → (w′ : List ℕ) → w′ ≡ replicate (length w) 0
+        → PlansOf (ladderIn s l) Planned.Impossible (areas p q o w) (areas p′ q′ o w′)
+    ladder-impossible e w′ ew =
+        let (no-plan, (ep, eq)) = line-none _ _ r p q p′ q′ said-along e in
+        record {
+          plans =
+              room-said (ladderIn s l) (refused 9) _ _ h (refl, (ladder-none _ _ _ no-plan, only-work p q o w p′ q′ o w′ ep eq refl ew));
+        }
+
+    pub ladder-unfit : r ≡ exchange.Planned.Unfit → {X : Type 0} → X
+    ladder-unfit e = line-unfit _ _ r p q p′ q′ said-along e refl
 
 -- ---- unit prices
 

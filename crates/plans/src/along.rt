@@ -1,13 +1,40 @@
 // Plans along an order: a ladder, or the chosen order of unit prices.
-ghost use mathlib.Core.List.{[]};
 ghost use Rattle.contract.specs.Valid.{Valid};
-ghost use Rattle.contract.specs.declared.Form.the-variants.{Ladder, UnitPrices};
+ghost use Rattle.contract.specs.declared.Form.the-variants.{UnitPrices};
+ghost use Rattle.record.specs.Find.{LadderFound, ladderIn};
 ghost use Rattle.line.specs.Segments.{dealAlong};
 ghost use Rattle.planning.specs.Deals.{contractWith};
 ghost use Rattle.planning.specs.Areas.{areas};
 ghost use Rattle.plans.specs.Code.{PlansOf, CanPlan, AlongSays};
 use contract::Refusal;
 use planning::Planned;
+use record::Ladder;
+
+// Plans a ladder that was found in its record; no order to name. The work area is not used.
+pub(crate) fn plan_ladder(
+    l: Ladder,
+    bytes: &[u8],
+    places: &mut [u8],
+    sums: &mut [u8],
+    order: &mut [u8],
+    work: &mut [u8],
+) -> Planned
+    requires { ⌜ LadderFound (now bytes) l ⌝ }
+    ensures { λ r. ⌜ PlansOf (ladderIn (now (bytes .entry)) l) r (areas (now (places .entry)) (now (sums .entry)) (now (order .entry)) (now (work .entry))) (areas (now (places .exit)) (now (sums .exit)) (now (order .exit)) (now (work .exit))) ⌝ }
+{
+    if !crate::room::has_room(l.count, 0, places, sums, order, work) {
+        return Planned::Refused(Refusal::Short);
+    }
+    area::clear(work);
+    match ladder::plan(planning::ladder_of(l), bytes, places, sums) {
+        exchange::Planned::Steps(n) => {
+            order::store(order, [0u8; 8]);
+            Planned::Steps(n)
+        }
+        exchange::Planned::Impossible => Planned::Impossible,
+        exchange::Planned::Unfit => Planned::Impossible,
+    }
+}
 
 // Plans along segments whose order bytes are given. The work area is not used.
 fn plan_along(
@@ -33,37 +60,6 @@ fn plan_along(
         exchange::Planned::Impossible => Planned::Impossible,
         exchange::Planned::Unfit => Planned::Impossible,
     }
-}
-
-// Plans a ladder: segments of one unit each, and no order to name.
-pub(crate) fn plan_ladder(
-    sides: exchange::Sides,
-    costs: &[u32],
-    values: &[u32],
-    places: &mut [u8],
-    sums: &mut [u8],
-    order: &mut [u8],
-    work: &mut [u8],
-) -> Planned
-    requires { ⌜ Valid (contractWith Ladder sides [] (now costs) (now values)) ⌝ }
-    ensures { λ r. ⌜ PlansOf (contractWith Ladder sides [] (now (costs .entry)) (now (values .entry))) r (areas (now (places .entry)) (now (sums .entry)) (now (order .entry)) (now (work .entry))) (areas (now (places .exit)) (now (sums .exit)) (now (order .exit)) (now (work .exit))) ⌝ }
-{
-    let n = costs.len();
-    if !crate::room::has_room(n, 0, places, sums, order, work) {
-        return Planned::Refused(Refusal::Short);
-    }
-    let ones = sizes::ones();
-    plan_along(
-        sides,
-        &ones[0..n],
-        costs,
-        values,
-        [0u8; 8],
-        places,
-        sums,
-        order,
-        work,
-    )
 }
 
 // Plans unit prices along the chosen order of their items.

@@ -1,14 +1,20 @@
-// Takes a contract apart by its form.
+// Unit prices and tables: reads the contract and takes it apart by its form.
+ghost use mathlib.Core.Path.{_≡_};
 ghost use Rattle.contract.specs.Contract.{contractOf};
-ghost use Rattle.planning.specs.Stands.{Stands};
+ghost use Rattle.contract.specs.declared.Form.the-variants.{Ladder};
+ghost use Rattle.record.specs.Find.{NoLadder};
+ghost use Rattle.planning.specs.Answer.{answerOf};
 ghost use Rattle.planning.specs.Areas.{areas};
+ghost use Rattle.planning.specs.Promise.{ahead, Plans};
+ghost use Rattle.planning.specs.Stands.{Stands};
 ghost use Rattle.plans.specs.Code.{PlansOf};
 use contract::Form;
 use contract::Header;
 use planning::Planned;
+use record::Reply;
 
 // Plans a contract whose costs and values stand at the front of two areas.
-pub(crate) fn plan_contract(
+fn plan_contract(
     header: Header,
     costs: &[u32],
     values: &[u32],
@@ -17,7 +23,7 @@ pub(crate) fn plan_contract(
     order: &mut [u8],
     work: &mut [u8],
 ) -> Planned
-    requires { ⌜ Stands header (now costs) (now values) ⌝ }
+    requires { ⌜ Stands header (now costs) (now values) × (header .form ≡ Ladder → ⊥) ⌝ }
     ensures { λ r. ⌜ PlansOf (contractOf header (now (costs .entry)) (now (values .entry))) r (areas (now (places .entry)) (now (sums .entry)) (now (order .entry)) (now (work .entry))) (areas (now (places .exit)) (now (sums .exit)) (now (order .exit)) (now (work .exit))) ⌝ }
 {
     let form = header.form;
@@ -29,15 +35,7 @@ pub(crate) fn plan_contract(
     let units = header.units;
     let n = header.count as usize;
     match form {
-        Form::Ladder => crate::along::plan_ladder(
-            sides,
-            &costs[0..n],
-            &values[0..n],
-            places,
-            sums,
-            order,
-            work,
-        ),
+        Form::Ladder => Planned::Impossible,
         Form::UnitPrices => crate::along::plan_prices(
             sides,
             &units[0..n],
@@ -61,5 +59,26 @@ pub(crate) fn plan_contract(
                 work,
             )
         }
+    }
+}
+
+// Plans the deal of a record that is no ladder's: its costs and values fit into two areas of 128.
+pub(crate) fn plan_other(
+    bytes: &[u8],
+    places: &mut [u8],
+    sums: &mut [u8],
+    order: &mut [u8],
+    work: &mut [u8],
+) -> Planned
+    requires { ⌜ NoLadder (now bytes) ⌝ }
+    ensures { λ r. ⌜ Plans (ahead (now (bytes .entry)) (areas (now (places .entry)) (now (sums .entry)) (now (order .entry)) (now (work .entry)))) (answerOf r) (areas (now (places .entry)) (now (sums .entry)) (now (order .entry)) (now (work .entry))) (areas (now (places .exit)) (now (sums .exit)) (now (order .exit)) (now (work .exit))) ⌝ }
+{
+    let mut costs = [0u32; 128];
+    let mut values = [0u32; 128];
+    let read = record::read(bytes, &mut costs, &mut values);
+    let reply = read.reply;
+    match reply {
+        Reply::Refused(e) => Planned::Refused(e),
+        Reply::Accepted => plan_contract(read.header, &costs, &values, places, sums, order, work),
     }
 }

@@ -9,7 +9,7 @@ mod room;
 mod table;
 
 use planning::Planned;
-use record::Reply;
+use record::Found;
 
 // Plans the deal of a record. The places and paid totals of the steps go to two byte areas, two and four bytes an entry, and the order of
 // the items to the first eight order bytes.
@@ -22,20 +22,9 @@ pub fn plan(
 ) -> Planned
     ensures { λ r. ⌜ Plans (ahead (now (bytes .entry)) (areas (now (places .entry)) (now (sums .entry)) (now (order .entry)) (now (work .entry)))) (answerOf r) (areas (now (places .entry)) (now (sums .entry)) (now (order .entry)) (now (work .entry))) (areas (now (places .exit)) (now (sums .exit)) (now (order .exit)) (now (work .exit))) ⌝ }
 {
-    let mut costs = [0u32; 1000];
-    let mut values = [0u32; 1000];
-    let read = record::read(bytes, &mut costs, &mut values);
-    let reply = read.reply;
-    match reply {
-        Reply::Refused(e) => Planned::Refused(e),
-        Reply::Accepted => contracts::plan_contract(
-            read.header,
-            &costs,
-            &values,
-            places,
-            sums,
-            order,
-            work,
-        ),
+    match record::find(bytes) {
+        Found::Refused(e) => Planned::Refused(e),
+        Found::Ladder(l) => along::plan_ladder(l, bytes, places, sums, order, work),
+        Found::Other => contracts::plan_other(bytes, places, sums, order, work),
     }
 }

@@ -3,6 +3,7 @@ pub mod Laws
 pub mod AnswerLaws
 pub mod SegmentLaws
 pub mod LadderLaws
+pub mod FindLaws
 pub mod TableLaws
 pub mod CellLaws
 -- the writer; the laws of amounts within the limit serve both

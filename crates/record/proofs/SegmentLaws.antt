@@ -47,31 +47,31 @@ count-ranged false s i = refl
 count-ranged true s i = refl
 
 -- the body of a ladder or of unit prices is the contract of the segments found
-body-found : (p : Bool) (s : List ℕ) (h : Head) → segmentBody p s h ≡ bind (found p s (h .next)) (λ r. ok (segmentContract p s h (r .count) (r .first)))
+pub body-found : (p : Bool) (s : List ℕ) (h : Head) → segmentBody p s h ≡ bind (found p s (h .next)) (λ r. ok (segmentContract p s h (r .count) (r .first)))
 unfolding segmentBody found
 body-found p s h = outer (segmentCount p s (h .next))
   where
     contract : At → Contract
     contract n = segmentContract p s h (n .value) (n .next)
 
-    run : At → Found
-    run n = record { count = n .value; first = n .next }
+    run : At → Sums → Found
+    run n c = record { count = n .value; first = n .next; cost = c .cost; value = c .value }
 
     made : Found → Res Contract
     made r = ok (segmentContract p s h (r .count) (r .first))
 
-    last : (n : At) (b : Bool) → test 7 b (ok (contract n)) ≡ bind (test 7 b (ok (run n))) made
-    last n true = refl
-    last n false = refl
+    last : (n : At) (c : Sums) (b : Bool) → test 7 b (ok (contract n)) ≡ bind (test 7 b (ok (run n c))) made
+    last n c true = refl
+    last n c false = refl
 
     inner : (n : At) (x : Res Sums)
-        → bind x (λ c. test 7 (eqb (c .at) (length s)) (ok (contract n))) ≡ bind (bind x (λ c. test 7 (eqb (c .at) (length s)) (ok (run n)))) made
+        → bind x (λ c. test 7 (eqb (c .at) (length s)) (ok (contract n))) ≡ bind (bind x (λ c. test 7 (eqb (c .at) (length s)) (ok (run n c)))) made
     inner n (refused k) = refl
-    inner n (ok c) = last n (eqb (c .at) (length s))
+    inner n (ok c) = last n c (eqb (c .at) (length s))
 
     outer : (x : Res At)
         → bind x (λ n. bind (segments p s (n .value) (from (n .next))) (λ c. test 7 (eqb (c .at) (length s)) (ok (contract n))))
-        ≡ bind (bind x (λ n. bind (segments p s (n .value) (from (n .next))) (λ c. test 7 (eqb (c .at) (length s)) (ok (run n))))) made
+        ≡ bind (bind x (λ n. bind (segments p s (n .value) (from (n .next))) (λ c. test 7 (eqb (c .at) (length s)) (ok (run n c))))) made
     outer (refused k) = refl
     outer (ok n) = inner n (segments p s (n .value) (from (n .next)))
 

@@ -1,4 +1,4 @@
--- What the types and functions inside this crate stand for; no promise of read or write cites them.
+-- What the types and functions inside this crate stand for; no promise of read, find or write cites them.
 pub mod Answer
 pub mod Spaced
 pub mod Field

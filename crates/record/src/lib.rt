@@ -1,7 +1,8 @@
-// Reads and writes contract records.
+// Reads and writes contract records, and finds ladders in theirs.
 ghost use mathlib.Core.Path.{_≡_};
 ghost use lib.ListN.{length};
 ghost use Rattle.contract.specs.Parse.{reading};
+ghost use Rattle.record.specs.Find.{Finds};
 ghost use Rattle.record.specs.Promise.{Reads, Writes};
 ghost use Rattle.record.specs.View.Answer.{refusal, acceptance};
 ghost use Rattle.record.specs.View.Head.{headOf, Small};
@@ -11,6 +12,7 @@ mod counts;
 mod field;
 mod head;
 mod output;
+mod rises;
 mod rows;
 mod segments;
 mod table;
@@ -38,6 +40,25 @@ pub enum Written {
     Bytes(usize),
 }
 
+// A ladder in its record: P and the defection costs, where its rises begin, how many units there are, and the total cost and value.
+pub struct Ladder {
+    pub price: u32,
+    pub supplier: u32,
+    pub buyer: u32,
+    pub first: usize,
+    pub count: usize,
+    pub cost: u32,
+    pub value: u32,
+}
+
+// What finding a ladder answers.
+pub enum Found {
+    Refused(Refusal),
+    Ladder(Ladder),
+    // Unit prices or a table, not looked at beyond the head.
+    Other,
+}
+
 // Reads a record: its costs and values go to the front of two areas.
 pub fn read(bytes: &[u8], costs: &mut [u32], values: &mut [u32]) -> Outcome
     ensures { λ r. ⌜ Reads (reading (now (bytes .entry)) (length (now (costs .entry))) (length (now (values .entry)))) (now (costs .entry)) (now (values .entry)) r (now (costs .exit)) (now (values .exit)) ⌝ }
@@ -50,6 +71,23 @@ pub fn read(bytes: &[u8], costs: &mut [u32], values: &mut [u32]) -> Outcome
                 Form::Ladder => segments::read_segments(bytes, h, false, costs, values),
                 Form::UnitPrices => segments::read_segments(bytes, h, true, costs, values),
                 Form::Table => table::read_table(bytes, h, costs, values),
+            }
+        }
+    }
+}
+
+// Finds a ladder in its record. Nothing is copied: the rises stay where they are.
+pub fn find(bytes: &[u8]) -> Found
+    ensures { λ r. ⌜ Finds (now (bytes .entry)) r ⌝ }
+{
+    match head::head_at(bytes) {
+        head::HeadReply::Refused(e) => Found::Refused(e),
+        head::HeadReply::Got(h) => {
+            let form = h.form;
+            match form {
+                Form::Ladder => rises::find_ladder(bytes, h),
+                Form::UnitPrices => Found::Other,
+                Form::Table => Found::Other,
             }
         }
     }

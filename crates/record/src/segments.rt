@@ -180,10 +180,12 @@ fn segment_count(s: &[u8], at: usize, priced: bool) -> Field
     }
 }
 
-// The segments of a record: how many, and where the first begins.
+// The segments of a record: how many, where the first begins, and the totals.
 pub(crate) struct Run {
     pub count: usize,
     pub first: usize,
+    pub cost: u64,
+    pub value: u64,
 }
 
 pub(crate) enum RunReply {
@@ -192,7 +194,7 @@ pub(crate) enum RunReply {
 }
 
 // Validates the segments from index at to the record's end.
-fn find_segments(s: &[u8], at: usize, priced: bool) -> RunReply
+pub(crate) fn find_segments(s: &[u8], at: usize, priced: bool) -> RunReply
     ensures { λ r. ⌜ Runs priced (now (s .entry)) at r ⌝ }
 {
     match segment_count(s, at, priced) {
@@ -213,6 +215,8 @@ fn find_segments(s: &[u8], at: usize, priced: bool) -> RunReply
                     RunReply::Found(Run {
                         count: n as usize,
                         first,
+                        cost: d.cost,
+                        value: d.value,
                     })
                 }
             }

@@ -1,6 +1,6 @@
 -- One step of the search. Only a row whose sum has changed offers something new, so the least floor of the rows that can follow a row is
 -- the lesser of the sum it had and the floors that the changed rows offer. Assumes nothing.
-use mathlib.Core.Path.{_≡_, sym, subst, _∙_}
+use mathlib.Core.Path.{_≡_, sym, _∙_}
 use mathlib.Core.Bool.{cond}
 use mathlib.Core.Logic.{_⊎_, ⊎-elim, inl, inr}
 use mathlib.Core.List.{List}
@@ -16,7 +16,7 @@ use Rattle.exchange.specs.Work.{Work}
 use Rattle.exchange.specs.Search.{follows, leastFloor}
 use Rattle.exchange.proofs.TablePlan.Floor.{IsLeast, floor-is-least}
 use Rattle.exchange.proofs.TablePlan.Need.{follows↔}
-use Rattle.search.specs.Layers.{mark, sumAt, valueOf, Layer, Offer, offered, offerAt, Offers, Listed, Among, TakenOver, Stepped}
+use Rattle.search.specs.Layers.{mark, sumAt, valueOf, Layer, Offer, offerAt, Listed, Among, Stepped}
 use Rattle.search.proofs.LimitLaws.{Priced}
 use Rattle.search.proofs.OfferLaws.{Best, Agrees, best-all}
 
@@ -207,10 +207,3 @@ module _ (w : Work) (ly : Layer) (agrees : Agrees w (ly .units) (ly .caps) (ly .
   -- where no row is listed, no sum has changed
   pub sums-same : n′ ≡ 0 → (a : ℕ) → a ≤ w .last → getD sums′ a 0 ≡ getD (ly .sums) a 0
   sums-same z a l = same-sum a l (λ m. omega (arith, s .over .lists a (omega arith) m .below, z))
-
--- the step as the code makes it, by the number of rows that it is given
-pub stepped : {l : Layer} {named changed sums′ named′ changed′ next : List ℕ} {rows all n n′ : ℕ} → rows ≡ all
-    → Offers (offered l changed n) all (replicate 128 mark) named next named′ → TakenOver next (l .sums) sums′ changed′ n′ all
-    → Stepped l rows named changed n sums′ named′ changed′ n′
-stepped {l} {named} {changed} {sums′} {named′} {changed′} {next} {n = n} {n′ = n′} e off over =
-    subst (λ (r : ℕ). Stepped l r named changed n sums′ named′ changed′ n′) (sym e) (record { next = next; offers = off; over = over })

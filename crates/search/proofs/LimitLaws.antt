@@ -2,7 +2,7 @@
 use mathlib.Core.Path.{_≡_, refl, ap, _∙_}
 use mathlib.Core.Bool.{Bool, true, false}
 use mathlib.Core.List.{List, [], _∷_}
-use Prim.Native.Nat.{ℕ, min, _+_, _-_, _/_, _%_, _≤_, _<_}
+use Prim.Native.Nat.{ℕ, zero, suc, min, max, _+_, _-_, _/_, _%_, _≤_, _<_}
 use native.Mathlib.Nat.{le-refl}
 use native.Mathlib.Decide.{ℕ-discrete}
 use native.Mathlib.Omega.{arith}
@@ -16,7 +16,7 @@ use Rattle.exchange.specs.Rule.{coins}
 use Rattle.exchange.specs.Work.{Work}
 use Rattle.exchange.specs.Forms.{holdsRow}
 use Rattle.exchange.proofs.TablePlan.RowUnits.{holds-rises}
-use Rattle.search.specs.Layers.{capOf, floorOf, mark, working, Table, Lists}
+use Rattle.search.specs.Layers.{capOf, floorOf, topOf, topAt, mark, working, Table, Lists}
 use Rattle.search.specs.declared.Terms.{Terms}
 use Rattle.search.proofs.BoundLaws.{coins-upper, coins-lower}
 
@@ -27,6 +27,25 @@ lists-more f array i v h l e = record { entry = λ a k. go a k (ℕ-discrete a i
     go : (a : ℕ) → a < i + 1 → Dec (a ≡ i) → getD (set array i v) a 0 ≡ f a
     go a k (yes q) = rw (q, ← e) (getD-set-same array i v 0 l)
     go a k (no n) = getD-set-other array i a v 0 n ∙ h .entry a (omega arith)
+
+-- the greatest cap, row by row
+pub top-none : (caps : List ℕ) → 0 ≡ topOf caps 0
+unfolding topOf
+top-none caps = refl
+
+pub top-more : (caps : List ℕ) (a top r : ℕ) → top ≡ topOf caps a → r ≡ max top (getD caps a 0) → r ≡ topAt caps a
+unfolding topOf
+top-more caps a top r e f = rw (← e) f
+
+-- none of the first n rows has a cap above the greatest
+pub cap-below : (caps : List ℕ) (i n : ℕ) → i < n → getD caps i 0 ≤ topOf caps n
+unfolding topOf
+cap-below caps i zero l = absurd (omega arith)
+cap-below caps i (suc n) l = go (ℕ-discrete i n) (cap-below caps i n)
+  where
+    go : Dec (i ≡ n) → (i < n → getD caps i 0 ≤ topOf caps n) → getD caps i 0 ≤ max (topOf caps n) (getD caps n 0)
+    go (yes q) f = rw q (omega arith)
+    go (no m) f = omega (arith, f (omega arith))
 
 -- the cap and the floor of a row, by the number of rows
 module _ (t : Terms) (us costs values : List ℕ) (good : Table t us) where

@@ -2,7 +2,7 @@
 use mathlib.Core.Path.{_≡_, refl, sym, ap, ap₂, _∙_}
 use mathlib.Core.Bool.{Bool, true, false, cond, _&&_, and-eq-true-iff, false≢true}
 use mathlib.Core.List.{List}
-use Prim.Native.Nat.{ℕ, zero, suc, min, _+_, _≤_, _<_}
+use Prim.Native.Nat.{ℕ, zero, suc, min, _+_, _-_, _≤_, _<_}
 use native.Mathlib.Decide.{ℕ-discrete, decLt}
 use native.Mathlib.Numerals.{add-one}
 use native.Mathlib.Omega.{arith}
@@ -16,9 +16,9 @@ use Rattle.exchange.specs.Forms.{holdsRow}
 use Rattle.exchange.specs.Search.{follows, leastFloor}
 use Rattle.exchange.proofs.TablePlan.Floor.{floor-is-least}
 use Rattle.exchange.proofs.TablePlan.Need.{follows↔}
-use Rattle.search.specs.Layers.{mark, sumAt, valueOf, Layer, Offer, takes, offerTo, offered, offerAt, Offers, Listed}
+use Rattle.search.specs.Layers.{mark, sumAt, valueOf, Tops, Layer, Offer, takes, offerTo, offered, offerAt, Offers, Listed}
 use Rattle.search.proofs.BoolLaws.{and-false, and-true}
-use Rattle.search.proofs.LimitLaws.{not-held}
+use Rattle.search.proofs.LimitLaws.{cap-below, not-held}
 
 -- ---- one offer
 
@@ -40,79 +40,99 @@ module _ (t : Bool) (need cap floor sum best : ℕ) where
 
 -- ---- the loop over the rows that an offer goes to
 
--- the rows below k have been offered the floor of row b; the others have not
+-- the rows from k on have been offered the floor of row b; the others have not
 pub record Offering (l : Layer) (b : ℕ) (next₀ named₀ next named : List ℕ) (k : ℕ) : Type 0 where
   pub next-long : length next ≡ 128
   pub named-long : length named ≡ 128
   pub within : k ≤ b + 1
-  pub done : (a : ℕ) → a < k → offerAt next named a ≡ offerTo l b a (offerAt next₀ named₀ a)
-  pub left : (a : ℕ) → k ≤ a → offerAt next named a ≡ offerAt next₀ named₀ a
+  pub done : (a : ℕ) → k ≤ a → a < rowsOf (l .units) → offerAt next named a ≡ offerTo l b a (offerAt next₀ named₀ a)
+  pub left : (a : ℕ) → a < k → offerAt next named a ≡ offerAt next₀ named₀ a
 
 offer-eq : {x y : Offer} → x .row ≡ y .row → x .sum ≡ y .sum → x ≡ y
 offer-eq p q = ap₂ (λ (r s : ℕ). record { row = r; sum = s }) p q
 
-module _ (l : Layer) (b : ℕ) (next₀ named₀ next named : List ℕ) (k : ℕ) (h : Offering l b next₀ named₀ next named k) (more : k ≤ b) (few : b < 128) where
-  abbrev test : ℕ → Bool
-  test best = takes (holdsRow (l .units) k b) (sumAt (l .sums) b) (getD (l .caps) k 0) (getD (l .floors) b 0) (sumAt (l .sums) k) best
-
-  best-is : getD next k 0 ≡ getD next₀ k 0
-  best-is = ap (λ (o : Offer). o .sum) (h .left k (omega arith))
-
-  pub offering-less : test (getD next k 0) ≡ true → getD (l .floors) b 0 < getD next k 0
-  offering-less = takes-less (holdsRow (l .units) k b) (sumAt (l .sums) b) (getD (l .caps) k 0) (getD (l .floors) b 0) (sumAt (l .sums) k) (getD next k 0)
-
-  pub offering-none : (next′ named′ : List ℕ) → test (getD next k 0) ≡ false → next′ ≡ next → named′ ≡ named → Offering l b next₀ named₀ next′ named′ (k + 1)
-  unfolding offerTo
-  offering-none next′ named′ e p q =
-      rw (p, q)
-      (record {
-        next-long = h .next-long;
-        named-long = h .named-long;
-        within = omega arith;
-        done = λ a m. go a m (ℕ-discrete a k);
-        left = λ a m. h .left a (omega arith);
-      })
-    where
-      go : (a : ℕ) → a < k + 1 → Dec (a ≡ k) → offerAt next named a ≡ offerTo l b a (offerAt next₀ named₀ a)
-      go a m (yes s) = rw s (h .left k (omega arith) ∙ sym (rw (← best-is, e)))
-      go a m (no s) = h .done a (omega arith)
-
-  pub offering-taken : (next′ named′ : List ℕ) → test (getD next k 0) ≡ true → next′ ≡ set next k (getD (l .floors) b 0) → named′ ≡ set named k b
-      → Offering l b next₀ named₀ next′ named′ (k + 1)
-  unfolding offerTo
-  offering-taken next′ named′ e p q =
-      rw (p, q)
-      (record {
-        next-long = length-set next k (getD (l .floors) b 0) ∙ h .next-long;
-        named-long = length-set named k b ∙ h .named-long;
-        within = omega arith;
-        done = λ a m. go a m (ℕ-discrete a k);
-        left = λ a m. other a (λ s. omega arith) ∙ h .left a (omega arith);
-      })
-    where
-      other : (a : ℕ) → (a ≡ k → ⊥) → offerAt (set next k (getD (l .floors) b 0)) (set named k b) a ≡ offerAt next named a
-      other a n = offer-eq (getD-set-other named k a b 0 n) (getD-set-other next k a (getD (l .floors) b 0) 0 n)
-
-      go : (a : ℕ) → a < k + 1 → Dec (a ≡ k) → offerAt (set next k (getD (l .floors) b 0)) (set named k b) a ≡ offerTo l b a (offerAt next₀ named₀ a)
-      go a m (yes s) =
-          rw s
-          (offer-eq (getD-set-same named k b 0 (omega (arith, h .named-long))) (getD-set-same next k (getD (l .floors) b 0) 0 (omega (arith, h .next-long)))
-          ∙ sym (rw (← best-is, e)))
-      go a m (no n) = other a n ∙ h .done a (omega arith)
-
-pub offering-start : (l : Layer) (b : ℕ) (next named : List ℕ) → length next ≡ 128 → length named ≡ 128 → Offering l b next named next named 0
-offering-start l b next named p q =
-    record { next-long = p; named-long = q; within = omega arith; done = λ a m. absurd (omega arith); left = λ a m. refl }
-
 -- the rows after row b are not held by it, so they take nothing from it
-pub offering-done : (l : Layer) (b : ℕ) (next₀ named₀ next named : List ℕ) (k : ℕ) → Offering l b next₀ named₀ next named k → b < k
-    → Offers (offerTo l b) (rowsOf (l .units)) next₀ named₀ next named
+pub offering-start : (l : Layer) (b : ℕ) (next named : List ℕ) → length next ≡ 128 → length named ≡ 128 → Offering l b next named next named (b + 1)
 unfolding offerTo
-offering-done l b next₀ named₀ next named k h m = record { next-long = h .next-long; named-long = h .named-long; offer-is = λ a s. go a s (decLt a k) }
-  where
-    go : (a : ℕ) → a < rowsOf (l .units) → Dec (a < k) → offerAt next named a ≡ offerTo l b a (offerAt next₀ named₀ a)
-    go a s (yes x) = h .done a x
-    go a s (no x) = h .left a (omega arith) ∙ sym (rw (not-held (l .units) a b s (omega (arith, h .within))))
+offering-start l b next named p q =
+    record {
+      next-long = p;
+      named-long = q;
+      within = omega arith;
+      done = λ a m s. sym (rw (not-held (l .units) a b s (omega arith)));
+      left = λ a m. refl;
+    }
+
+module _ (l : Layer) (b : ℕ) (next₀ named₀ next named : List ℕ) (k : ℕ) (h : Offering l b next₀ named₀ next named k) where
+  pub offering-done : k ≤ 0 → Offers (offerTo l b) (rowsOf (l .units)) next₀ named₀ next named
+  offering-done z = record { next-long = h .next-long; named-long = h .named-long; offer-is = λ a s. h .done a (omega arith) s }
+
+  -- no row below k can pay what row b needs, so they take nothing from it
+  pub offering-shut : (tops : List ℕ) → Tops (l .caps) tops (rowsOf (l .units)) → b < rowsOf (l .units) → 0 < k → getD tops (k - 1) 0 < sumAt (l .sums) b
+      → Offers (offerTo l b) (rowsOf (l .units)) next₀ named₀ next named
+  unfolding offerTo
+  offering-shut tops top few more low = record { next-long = h .next-long; named-long = h .named-long; offer-is = λ a s. go a s (decLt a k) }
+    where
+      go : (a : ℕ) → a < rowsOf (l .units) → Dec (a < k) → offerAt next named a ≡ offerTo l b a (offerAt next₀ named₀ a)
+      go a s (yes x) =
+          let poor : getD (l .caps) a 0 < sumAt (l .sums) b =
+          omega (arith, cap-below (l .caps) a (suc (k - 1)) (omega arith), top .entry (k - 1) (omega (arith, h .within))) in
+          h .left a x
+          ∙ sym (rw (← takes-shut (holdsRow (l .units) a b) (sumAt (l .sums) b) (getD (l .caps) a 0) (getD (l .floors) b 0) (sumAt (l .sums) a) (getD next₀ a 0) poor))
+      go a s (no x) = h .done a (omega arith) s
+
+  module _ (more : 0 < k) (few : b < 128) where
+    abbrev test : ℕ → Bool
+    test best = takes (holdsRow (l .units) (k - 1) b) (sumAt (l .sums) b) (getD (l .caps) (k - 1) 0) (getD (l .floors) b 0) (sumAt (l .sums) (k - 1)) best
+
+    best-is : getD next (k - 1) 0 ≡ getD next₀ (k - 1) 0
+    best-is = ap (λ (o : Offer). o .sum) (h .left (k - 1) (omega arith))
+
+    pub offering-less : test (getD next (k - 1) 0) ≡ true → getD (l .floors) b 0 < getD next (k - 1) 0
+    offering-less =
+        takes-less (holdsRow (l .units) (k - 1) b) (sumAt (l .sums) b) (getD (l .caps) (k - 1) 0) (getD (l .floors) b 0) (sumAt (l .sums) (k - 1)) (getD next (k - 1) 0)
+
+    pub offering-none : (next′ named′ : List ℕ) → test (getD next (k - 1) 0) ≡ false → next′ ≡ next → named′ ≡ named
+        → Offering l b next₀ named₀ next′ named′ (k - 1)
+    unfolding offerTo
+    offering-none next′ named′ e p q =
+        rw (p, q)
+        (record {
+          next-long = h .next-long;
+          named-long = h .named-long;
+          within = omega (arith, h .within);
+          done = λ a m s. go a m s (ℕ-discrete a (k - 1));
+          left = λ a m. h .left a (omega arith);
+        })
+      where
+        go : (a : ℕ) → k - 1 ≤ a → a < rowsOf (l .units) → Dec (a ≡ k - 1) → offerAt next named a ≡ offerTo l b a (offerAt next₀ named₀ a)
+        go a m s (yes z) = rw z (h .left (k - 1) (omega arith) ∙ sym (rw (← best-is, e)))
+        go a m s (no z) = h .done a (omega arith) s
+
+    pub offering-taken : (next′ named′ : List ℕ) → test (getD next (k - 1) 0) ≡ true → next′ ≡ set next (k - 1) (getD (l .floors) b 0)
+        → named′ ≡ set named (k - 1) b → Offering l b next₀ named₀ next′ named′ (k - 1)
+    unfolding offerTo
+    offering-taken next′ named′ e p q =
+        rw (p, q)
+        (record {
+          next-long = length-set next (k - 1) (getD (l .floors) b 0) ∙ h .next-long;
+          named-long = length-set named (k - 1) b ∙ h .named-long;
+          within = omega (arith, h .within);
+          done = λ a m s. go a m s (ℕ-discrete a (k - 1));
+          left = λ a m. other a (λ z. omega arith) ∙ h .left a (omega arith);
+        })
+      where
+        other : (a : ℕ) → (a ≡ k - 1 → ⊥) → offerAt (set next (k - 1) (getD (l .floors) b 0)) (set named (k - 1) b) a ≡ offerAt next named a
+        other a n = offer-eq (getD-set-other named (k - 1) a b 0 n) (getD-set-other next (k - 1) a (getD (l .floors) b 0) 0 n)
+
+        go : (a : ℕ) → k - 1 ≤ a → a < rowsOf (l .units) → Dec (a ≡ k - 1)
+            → offerAt (set next (k - 1) (getD (l .floors) b 0)) (set named (k - 1) b) a ≡ offerTo l b a (offerAt next₀ named₀ a)
+        go a m s (yes z) =
+            rw z
+            (offer-eq (getD-set-same named (k - 1) b 0 (omega (arith, h .within, h .named-long)))
+            (getD-set-same next (k - 1) (getD (l .floors) b 0) 0 (omega (arith, h .within, h .next-long)))
+            ∙ sym (rw (← best-is, e)))
+        go a m s (no z) = other a z ∙ h .done a (omega arith) s
 
 -- ---- the loop over the rows that offer
 

@@ -13,18 +13,28 @@ use Rattle.search.specs.Layers.{mark, Listed, Listing, Taken, TakenOver,
 
 -- ---- the loop that takes the offers over
 
-pub taken-none : (next list sums : List ℕ) → length sums ≡ 128 → Taken next list sums sums 0
-taken-none next list sums h = record { sums-long = h; sum-is = λ i l. absurd (omega arith); kept = λ a n. refl }
+pub taken-none : (next list sums changed : List ℕ) → length sums ≡ 128 → length changed ≡ 128 → Taken next list sums sums changed 0
+taken-none next list sums changed p q =
+    record { sums-long = p; changed-long = q; changed-is = λ i l. absurd (omega arith); sum-is = λ i l. absurd (omega arith); kept = λ a n. refl }
 
-pub taken-more : (next list sums₀ sums : List ℕ) (i a v : ℕ) → Taken next list sums₀ sums i → a ≡ getD list i 0 → a < 128 → v ≡ getD next a 0
-    → Taken next list sums₀ (set sums a v) (i + 1)
-taken-more next list sums₀ sums i a v h e l f =
+pub taken-more : (next list sums₀ sums changed : List ℕ) (i x a v : ℕ) → Taken next list sums₀ sums changed i → x ≡ getD list i 0 → a ≡ x → a < 128 → i < 128
+    → v ≡ getD next a 0 → Taken next list sums₀ (set sums a v) (set changed i x) (i + 1)
+taken-more next list sums₀ sums changed i x a v h d c l few f =
     record {
       sums-long = length-set sums a v ∙ h .sums-long;
+      changed-long = length-set changed i x ∙ h .changed-long;
+      changed-is = λ k m. row k m (ℕ-discrete k i);
       sum-is = λ k m. at k m (ℕ-discrete (getD list k 0) a);
       kept = λ b n. getD-set-other sums a b v 0 (λ q. n i (omega arith) (sym e ∙ sym q)) ∙ h .kept b (λ k m. n k (omega arith));
     }
   where
+    e : a ≡ getD list i 0
+    e = c ∙ d
+
+    row : (k : ℕ) → k < i + 1 → Dec (k ≡ i) → getD (set changed i x) k 0 ≡ getD list k 0
+    row k m (yes q) = rw (q, ← d) (getD-set-same changed i x 0 (omega (arith, h .changed-long)))
+    row k m (no z) = getD-set-other changed i k x 0 z ∙ h .changed-is k (omega arith)
+
     at : (k : ℕ) → k < i + 1 → Dec (getD list k 0 ≡ a) → getD (set sums a v) (getD list k 0) 0 ≡ getD next (getD list k 0) 0
     at k m (yes q) = rw (q, ← f) (getD-set-same sums a v 0 (omega (arith, h .sums-long)))
     at k m (no n) = getD-set-other sums a (getD list k 0) v 0 n ∙ h .sum-is k (old (ℕ-discrete k i))
@@ -34,9 +44,18 @@ taken-more next list sums₀ sums i a v h e l f =
         old (no z) = omega arith
 
 -- the rows of the list are those with an offer
-pub taken-over : {next list sums sums′ : List ℕ} {n rows : ℕ} → Listing next list n rows → Taken next list sums sums′ n → TakenOver next sums sums′ list n rows
-taken-over {next} {list} {sums} {sums′} {n} {rows} h t =
-    record { sums-long = t .sums-long; sum-is = λ a l. go a l (decLt (getD next a 0) mark); lists = h .lists; listed = h .listed }
+pub taken-over : {next list sums sums′ changed : List ℕ} {n rows : ℕ} → Listing next list n rows → Taken next list sums sums′ changed n
+    → TakenOver next sums sums′ changed n rows
+taken-over {next} {list} {sums} {sums′} {changed} {n} {rows} h t =
+    record {
+      sums-long = t .sums-long;
+      changed-long = t .changed-long;
+      sum-is = λ a l. go a l (decLt (getD next a 0) mark);
+      lists = λ a l m.
+          let x = h .lists a l m in
+          record { index = x .index; below = x .below; entry = t .changed-is (x .index) (x .below) ∙ x .entry };
+      listed = record { few = h .listed .few; in-rows = λ i l. rw (t .changed-is i l) (h .listed .in-rows i l) };
+    }
   where
     go : (a : ℕ) → a < rows → Dec (getD next a 0 < mark) → getD sums′ a 0 ≡ cond (ltb (getD next a 0) mark) (getD next a 0) (getD sums a 0)
     go a l (yes m) =

@@ -53,8 +53,9 @@ first-skip f i (suc c) k h =
     let e : i + suc c ≡ suc i + c = omega arith in
     rw (d, h i (omega arith) (omega arith), e) (first-skip f (suc i) c k (λ b l m. h b (omega arith) (omega arith)))
 
--- the rows before b are passed over
+-- the rows from a to b are passed over
 pub record Looking (w : Work) (needs : ℕ → ℕ) (a paid rows b : ℕ) : Type 0 where
+  pub from : a ≤ b
   pub within : b ≤ rows
   pub same : a < rows → firstRow w needs a paid b (rows - b) ≡ firstRow w needs a paid 0 rows
 
@@ -64,6 +65,7 @@ module _ (w : Work) (needs : ℕ → ℕ) (a paid rows : ℕ) where
   unfolding firstRow
   looking-start h below =
       record {
+        from = omega arith;
         within = h;
         same = λ l.
             let e : a + (rows - a) ≡ rows = omega arith in
@@ -91,7 +93,7 @@ module _ (w : Work) (needs : ℕ → ℕ) (a paid rows : ℕ) where
 
     pub looking-next : r ≡ false → Looking w needs a paid rows (b + 1)
     unfolding firstRow firstOf
-    looking-next t = record { within = omega arith; same = λ m. sym (rw (one, ← test, t, add-one)) ∙ l .same m }
+    looking-next t = record { from = omega (arith, l .from); within = omega arith; same = λ m. sym (rw (one, ← test, t, add-one)) ∙ l .same m }
 
 -- ---- what each row needs, from the work bytes
 

@@ -1,8 +1,8 @@
 -- The search as the code makes it: layer by layer, in each layer the rows whose sum has changed offer their floor.
 use mathlib.Core.Path.{_≡_}
-use mathlib.Core.Bool.{Bool, cond, _&&_}
+use mathlib.Core.Bool.{Bool, true, false, cond, _&&_}
 use mathlib.Core.List.{List, map}
-use Prim.Native.Nat.{ℕ, zero, suc, min, _+_, _-_, _*_, _≤_, _<_}
+use Prim.Native.Nat.{ℕ, zero, suc, min, max, _+_, _-_, _*_, _≤_, _<_}
 use lib.Dec.{leb, ltb, eqb}
 use lib.ListN.{getD, set, length, take, replicate}
 use Rattle.area.specs.Entries.{entries, remainder}
@@ -45,6 +45,19 @@ pub record Lists (f : ℕ → ℕ) (array : List ℕ) (n : ℕ) : Type 0 where
 -- the first n entries of an array are the caps of the rows
 abbrev pub Caps : Terms → List ℕ → List ℕ → ℕ → Type 0
 Caps t costs = Lists (capOf t costs)
+
+-- the greatest cap of the first n rows
+unfoldable pub topOf : List ℕ → ℕ → ℕ
+topOf caps zero = 0
+topOf caps (suc n) = max (topOf caps n) (getD caps n 0)
+
+-- the greatest cap of the rows up to row a
+abbrev pub topAt : List ℕ → ℕ → ℕ
+topAt caps a = topOf caps (suc a)
+
+-- the first n entries of an array are those of their rows
+abbrev pub Tops : List ℕ → List ℕ → ℕ → Type 0
+Tops caps = Lists (topAt caps)
 
 -- the first n entries of an array are the floors of the rows
 abbrev pub Floors : Terms → List ℕ → List ℕ → ℕ → Type 0
@@ -139,26 +152,30 @@ pub record RowListed (list : List ℕ) (n a best : ℕ) (list′ : List ℕ) (n�
   pub list-is : list′ ≡ cond (ltb best mark) list (set list n a)
   pub count-is : n′ ≡ cond (ltb best mark) n (n + 1)
 
--- the offers of the first n rows of a list become their sums, and the other rows keep theirs
-pub record Taken (next list sums sums′ : List ℕ) (n : ℕ) : Type 0 where
+-- the offers of the first n rows of a list become their sums, and the other rows keep theirs; the list is that of the changed rows
+pub record Taken (next list sums sums′ changed : List ℕ) (n : ℕ) : Type 0 where
   pub sums-long : length sums′ ≡ 128
+  pub changed-long : length changed ≡ 128
+  pub changed-is : (i : ℕ) → i < n → getD changed i 0 ≡ getD list i 0
   pub sum-is : (i : ℕ) → i < n → getD sums′ (getD list i 0) 0 ≡ getD next (getD list i 0) 0
   pub kept : (a : ℕ) → ((i : ℕ) → i < n → getD list i 0 ≡ a → ⊥) → getD sums′ a 0 ≡ getD sums a 0
 
 -- an offer below the mark becomes the sum of its row, and the list has the row
 pub record TakenOver (next sums sums′ changed : List ℕ) (n rows : ℕ) : Type 0 where
   pub sums-long : length sums′ ≡ 128
+  pub changed-long : length changed ≡ 128
   pub sum-is : (a : ℕ) → a < rows → getD sums′ a 0 ≡ cond (ltb (getD next a 0) mark) (getD next a 0) (getD sums a 0)
   pub lists : (a : ℕ) → a < rows → getD next a 0 < mark → Among changed n a
   pub listed : Listed changed n rows
 
--- what a step needs: the units of the rows, a list of rows, and arrays of 128 entries
-pub record CanStep (us held : List ℕ) (rows : ℕ) (sums named changed : List ℕ) (n : ℕ) : Type 0 where
-  pub rows-are : rows ≡ rowsOf us
-  pub held-units : RowUnits us held rows
-  pub listed : Listed changed n rows
+-- what a step needs: the units of the rows, their greatest caps, a list of rows, and arrays of 128 entries
+pub record CanStep (us held caps tops sums named changed : List ℕ) (n : ℕ) : Type 0 where
+  pub held-units : RowUnits us held (rowsOf us)
+  pub tops-are : Tops caps tops (rowsOf us)
+  pub listed : Listed changed n (rowsOf us)
   pub sums-long : length sums ≡ 128
   pub named-long : length named ≡ 128
+  pub changed-long : length changed ≡ 128
 
 -- a step: the first n rows of a list offer their floors, and the best offers become the sums
 pub record Stepped (l : Layer) (rows : ℕ) (named changed : List ℕ) (n : ℕ) (sums′ named′ changed′ : List ℕ) (n′ : ℕ) : Type 0 where
@@ -173,6 +190,18 @@ pub record Noted (named : List ℕ) (at : ℕ) (old new : List ℕ) (i : ℕ) : 
 
 -- ---- all layers
 
+-- one of the first n rows of a list ends the search one step on: row 0 can pay its sum, and its floor is 0
+pub record Arrival (caps floors sums changed : List ℕ) (n : ℕ) : Type 0 where
+  pub index : ℕ
+  pub below : index < n
+  pub affords : sumAt sums (getD changed index 0) ≤ getD caps 0 0
+  pub free : getD floors (getD changed index 0) 0 ≡ 0
+
+-- the answer whether one of them does
+pub record Arrives (caps floors sums changed : List ℕ) (n : ℕ) (r : Bool) : Type 0 where
+  pub found : r ≡ true → Arrival caps floors sums changed n
+  pub none : r ≡ false → Arrival caps floors sums changed n → ⊥
+
 -- an array has what each row needs to end in j steps
 abbrev pub Needs : Work → ℕ → List ℕ → Type 0
 Needs w j sums = (a : ℕ) → a ≤ w .last → getD sums a 0 ≡ need w mark j a
@@ -181,9 +210,9 @@ Needs w j sums = (a : ℕ) → a ≤ w .last → getD sums a 0 ≡ need w mark j
 abbrev pub Named : Work → ℕ → List ℕ → ℕ → Type 0
 Named w rows work j = (i a : ℕ) → 0 < i → i ≤ j → a < rows → valueOf w (getD work (i * rows + a) 0) ≡ need w mark i a
 
--- what the work area says of a count of steps: it names the rows of each layer up to it, and the start then needs nothing
+-- what the work area says of a count of steps: it names the rows of each layer below it, and the start then needs nothing
 pub record Reached (w : Work) (rows : ℕ) (work : List ℕ) (n : ℕ) : Type 0 where
-  pub named : Named w rows work n
+  pub named : Named w rows work (n - 1)
   pub enough : need w mark n 0 ≤ 0
 
 -- the answer of the count: the number of steps, where the bounds rise

@@ -5,21 +5,14 @@ ghost use lib.ListN.{length, set, replicate};
 ghost use Rattle.grid.specs.Rows.{rowsOf};
 ghost use Rattle.exchange.specs.Forms.{holdsRow};
 ghost use Rattle.search.specs.Units.{RowUnits};
-ghost use Rattle.search.specs.Layers.{working, Table, mark, layer, takes, offerTo, offered, Offers, Listed, Listing, RowListed, Taken, CanStep, Stepped, Noted, Counted};
+ghost use Rattle.search.specs.Layers.{working, Table, Tops, mark, layer, takes, offerTo, offered, Offers, Listed, Listing, RowListed, Taken, CanStep, Stepped, Noted, Arrives, Counted};
 use super::Terms;
 use super::UNREACHED;
 use super::limits::all_caps;
 use super::limits::all_floors;
+use super::limits::all_tops;
 use super::limits::wide32;
-use super::units::all_units;
 use super::units::row_holds;
-
-// For each row the row whose floor its sum is, 255 for none; and the rows whose sum has changed, the first `count` of a list.
-struct Frontier {
-    named: [u8; 128],
-    changed: [u8; 128],
-    count: usize,
-}
 
 fn wide8(x: u8) -> usize
     ensures { λ r. ⌜ r ≡ x ⌝ }
@@ -66,12 +59,13 @@ fn list_row(list: &mut [u8; 128], n: usize, a: usize, best: u64) -> usize
     n + 1
 }
 
-// Row b offers its floor to the rows up to it; no row after it is held by it. Lists the rows that take their first offer, behind the n
-// that the list has. The answer is the length of the list.
+// Row b offers its floor to the rows up to it; no row after it is held by it. Goes down, and stops where no row from there down can pay what
+// row b needs. Lists the rows that take their first offer, behind the n that the list has. The answer is the length of the list.
 fn offer(
     units: &[u16],
     held: &[u8; 512],
     caps: &[u64; 128],
+    tops: &[u64; 128],
     floors: &[u64; 128],
     sums: &[u64; 128],
     b: usize,
@@ -80,20 +74,23 @@ fn offer(
     list: &mut [u8; 128],
     n: usize,
 ) -> usize
-    requires { ⌜ RowUnits (now units) (now held) (rowsOf (now units)) × (b < rowsOf (now units)) × (length (now named) ≡ 128) × Listing (now next) (now list) n (rowsOf (now units)) ⌝ }
+    requires { ⌜ RowUnits (now units) (now held) (rowsOf (now units)) × Tops (now caps) (now tops) (rowsOf (now units)) × (b < rowsOf (now units)) × (length (now named) ≡ 128) × Listing (now next) (now list) n (rowsOf (now units)) ⌝ }
     ensures { λ r. ⌜ Offers (offerTo (layer (now (units .entry)) (now (caps .entry)) (now (floors .entry)) (now (sums .entry))) b) (rowsOf (now (units .entry))) (now (next .entry)) (now (named .entry)) (now (next .exit)) (now (named .exit)) × Listing (now (next .exit)) (now (list .exit)) r (rowsOf (now (units .entry))) ⌝ }
 {
     let need = sums[b];
     let floor = floors[b];
     let mut count = n;
-    let mut a: usize = 0;
-    while a <= b {
+    let mut a = b + 1;
+    while 0 < a {
+        a -= 1;
+        if tops[a] < need {
+            return count;
+        }
         if takes_offer(units, held, a, b, need, caps[a], floor, sums[a], next[a]) {
             count = list_row(list, count, a, next[a]);
             next[a] = floor;
             named[a] = b as u8;
         }
-        a += 1;
     }
     count
 }
@@ -103,6 +100,7 @@ fn offer_all(
     units: &[u16],
     held: &[u8; 512],
     caps: &[u64; 128],
+    tops: &[u64; 128],
     floors: &[u64; 128],
     sums: &[u64; 128],
     changed: &[u8; 128],
@@ -111,28 +109,48 @@ fn offer_all(
     named: &mut [u8; 128],
     list: &mut [u8; 128],
 ) -> usize
-    requires { ⌜ RowUnits (now units) (now held) (rowsOf (now units)) × Listed (now changed) n (rowsOf (now units)) × (length (now named) ≡ 128) × Listing (now next) (now list) 0 (rowsOf (now units)) ⌝ }
+    requires { ⌜ RowUnits (now units) (now held) (rowsOf (now units)) × Tops (now caps) (now tops) (rowsOf (now units)) × Listed (now changed) n (rowsOf (now units)) × (length (now named) ≡ 128) × Listing (now next) (now list) 0 (rowsOf (now units)) ⌝ }
     ensures { λ r. ⌜ Offers (offered (layer (now (units .entry)) (now (caps .entry)) (now (floors .entry)) (now (sums .entry))) (now (changed .entry)) n) (rowsOf (now (units .entry))) (now (next .entry)) (now (named .entry)) (now (next .exit)) (now (named .exit)) × Listing (now (next .exit)) (now (list .exit)) r (rowsOf (now (units .entry))) ⌝ }
 {
     let mut count: usize = 0;
     let mut i: usize = 0;
     while i < n {
         let b = wide8(changed[i]);
-        count = offer(units, held, caps, floors, sums, b, next, named, list, count);
+        count = offer(
+            units,
+            held,
+            caps,
+            tops,
+            floors,
+            sums,
+            b,
+            next,
+            named,
+            list,
+            count,
+        );
         i += 1;
     }
     count
 }
 
-// The offers of the first n rows of the list become their sums.
-fn take_over(next: &[u64; 128], list: &[u8; 128], n: usize, sums: &mut [u64; 128])
-    requires { ⌜ Listed (now list) n 128 × (length (now sums) ≡ 128) ⌝ }
-    ensures { λ _. ⌜ Taken (now (next .entry)) (now (list .entry)) (now (sums .entry)) (now (sums .exit)) n ⌝ }
+// The offers of the first n rows of the list become their sums, and the list that of the changed rows.
+fn take_over(
+    next: &[u64; 128],
+    list: &[u8; 128],
+    n: usize,
+    sums: &mut [u64; 128],
+    changed: &mut [u8; 128],
+)
+    requires { ⌜ Listed (now list) n 128 × (length (now sums) ≡ 128) × (length (now changed) ≡ 128) ⌝ }
+    ensures { λ _. ⌜ Taken (now (next .entry)) (now (list .entry)) (now (sums .entry)) (now (sums .exit)) (now (changed .exit)) n ⌝ }
 {
     let mut i: usize = 0;
     while i < n {
-        let a = wide8(list[i]);
+        let row = list[i];
+        let a = wide8(row);
         sums[a] = next[a];
+        changed[i] = row;
         i += 1;
     }
 }
@@ -170,87 +188,112 @@ fn one_row(row: usize, place: usize) -> [u8; 128]
     rows
 }
 
-// The frontier before the first step: the last row, which names itself.
-fn first_frontier(rows: usize) -> Frontier
-    requires { ⌜ (1 < rows) × (rows ≤ 128) ⌝ }
-    ensures { λ r. ⌜ (r .named ≡ set (replicate 128 255) (rows - 1) (rows - 1)) × (r .changed ≡ set (replicate 128 255) 0 (rows - 1)) × (r .count ≡ 1) ⌝ }
-{
-    let named = one_row(rows - 1, rows - 1);
-    let changed = one_row(rows - 1, 0);
-    Frontier {
-        named,
-        changed,
-        count: 1,
-    }
-}
-
-// One step of the search: the changed rows offer their floors, and the best offers become the sums.
+// One step of the search: the changed rows, the first n of their list, offer their floors, and the best offers become the sums. The answer
+// is the number of rows that have changed then.
 fn step(
-    rows: usize,
     units: &[u16],
     held: &[u8; 512],
     caps: &[u64; 128],
+    tops: &[u64; 128],
     floors: &[u64; 128],
     sums: &mut [u64; 128],
-    old: Frontier,
-) -> Frontier
-    requires { ⌜ CanStep (now units) (now held) rows (now sums) (old .named) (old .changed) (old .count) ⌝ }
-    ensures { λ r. ⌜ Stepped (layer (now (units .entry)) (now (caps .entry)) (now (floors .entry)) (now (sums .entry))) rows (old .named) (old .changed) (old .count) (now (sums .exit)) (r .named) (r .changed) (r .count) ⌝ }
+    named: &mut [u8; 128],
+    changed: &mut [u8; 128],
+    n: usize,
+) -> usize
+    requires { ⌜ CanStep (now units) (now held) (now caps) (now tops) (now sums) (now named) (now changed) n ⌝ }
+    ensures { λ r. ⌜ Stepped (layer (now (units .entry)) (now (caps .entry)) (now (floors .entry)) (now (sums .entry))) (rowsOf (now (units .entry))) (now (named .entry)) (now (changed .entry)) n (now (sums .exit)) (now (named .exit)) (now (changed .exit)) r ⌝ }
 {
     let mut next = [UNREACHED; 128];
-    let mut named = old.named;
     let mut list = [0u8; 128];
-    let changed = old.changed;
     let count = offer_all(
         units,
         held,
         caps,
+        tops,
         floors,
         sums,
-        &changed,
-        old.count,
+        changed,
+        n,
         &mut next,
-        &mut named,
+        named,
         &mut list,
     );
-    take_over(&next, &list, count, sums);
-    Frontier {
-        named,
-        changed: list,
-        count,
-    }
+    take_over(&next, &list, count, sums, changed);
+    count
 }
 
-// The fewest steps of a plan, and most + 1 where there is none. The work area then names the rows of each layer up to that count.
+// Whether a changed row, one of the first n of their list, ends the search one step on: row 0 can pay its sum, and its floor is 0. Every
+// row holds the units of row 0.
+fn arrives(
+    caps: &[u64; 128],
+    floors: &[u64; 128],
+    sums: &[u64; 128],
+    changed: &[u8; 128],
+    n: usize,
+) -> bool
+    requires { ⌜ Listed (now changed) n 128 ⌝ }
+    ensures { λ r. ⌜ Arrives (now (caps .entry)) (now (floors .entry)) (now (sums .entry)) (now (changed .entry)) n r ⌝ }
+{
+    let cap = caps[0];
+    let mut i: usize = 0;
+    while i < n {
+        let b = wide8(changed[i]);
+        if sums[b] <= cap {
+            if floors[b] == 0 {
+                return true;
+            }
+        }
+        i += 1;
+    }
+    false
+}
+
+// The fewest steps of a plan, and most + 1 where there is none. The work area then names the rows of each layer below that count; the last
+// step needs no layer of its own.
 pub(crate) fn count_steps(
     t: Terms,
     units: &[u16],
+    held: &[u8; 512],
     costs: &[u32],
     values: &[u32],
     most: usize,
     work: &mut [u8],
 ) -> usize
-    requires { ⌜ Table t (now units) × (t .rows * (most + 1) ≤ length (now work)) ⌝ }
+    requires { ⌜ Table t (now units) × RowUnits (now units) (now held) (t .rows) × (t .rows * (most + 1) ≤ length (now work)) ⌝ }
     ensures { λ r. ⌜ Counted (working t (now (units .entry)) (now (costs .entry)) (now (values .entry))) (t .rows) most (now (work .exit)) r ⌝ }
 {
-    let held = all_units(units, t.rows);
     let caps = all_caps(t, costs);
+    let tops = all_tops(&caps, t.rows);
     let floors = all_floors(t, values);
     let mut sums = first_sums(t);
-    let mut front = first_frontier(t.rows);
+    // for each row the row whose floor its sum is, 255 for none; and the rows whose sum has changed
+    let last = t.rows - 1;
+    let mut named = one_row(last, last);
+    let mut changed = one_row(last, 0);
+    let mut n: usize = 1;
     let mut at = t.rows;
     let mut j: usize = 0;
     while j < most {
-        front = step(t.rows, units, &held, &caps, &floors, &mut sums, front);
-        let named = front.named;
-        note(t.rows, &named, work, at);
-        j += 1;
-        if sums[0] == 0 {
-            return j;
+        if arrives(&caps, &floors, &sums, &changed, n) {
+            return j + 1;
         }
-        if front.count == 0 {
+        n = step(
+            units,
+            held,
+            &caps,
+            &tops,
+            &floors,
+            &mut sums,
+            &mut named,
+            &mut changed,
+            n,
+        );
+        note(t.rows, &named, work, at);
+        if n == 0 {
             return most + 1;
         }
+        j += 1;
         at += t.rows;
     }
     most + 1

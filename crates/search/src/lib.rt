@@ -20,6 +20,8 @@ use layers::count_steps;
 use limits::cell;
 use limits::floor;
 use limits::wide32;
+pub use units::all_units;
+pub use units::row_holds;
 
 // P and the defection costs, and the number of rows.
 struct Terms {
@@ -37,7 +39,7 @@ fn wide16(x: u16) -> usize
 }
 
 // Whether row b holds at least the units of row a of every item. Goes from the last item, which runs fastest, to the first.
-pub fn holds(units: &[u16], a: usize, b: usize) -> bool
+fn holds(units: &[u16], a: usize, b: usize) -> bool
     ensures { λ r. ⌜ r ≡ holdsRow (now (units .entry)) a b ⌝ }
 {
     let mut j = units.len();
@@ -144,12 +146,13 @@ pub fn plan(
         area::clear(work);
         return Planned::Impossible;
     }
-    let n = count_steps(t, units, costs, values, most, work);
+    let held = all_units(units, t.rows);
+    let n = count_steps(t, units, &held, costs, values, most, work);
     if most < n {
         area::clear(work);
         return Planned::Impossible;
     }
-    walk::walk(t, units, costs, values, work, n, places, sums);
+    walk::walk(t, units, &held, costs, values, work, n, places, sums);
     area::clear_u16(places, n);
     area::clear_u32(sums, n);
     area::clear(work);

@@ -1,8 +1,8 @@
 // The most and the least that is paid at each row.
 ghost use mathlib.Core.Path.{_≡_};
-ghost use Prim.Native.Nat.{_<_, _≤_};
+ghost use Prim.Native.Nat.{max, _<_, _≤_};
 ghost use lib.ListN.{getD};
-ghost use Rattle.search.specs.Layers.{capOf, floorOf, Caps, Floors};
+ghost use Rattle.search.specs.Layers.{capOf, floorOf, Caps, Floors, Tops};
 use super::Terms;
 
 pub(crate) fn wide32(x: u32) -> u64
@@ -64,6 +64,28 @@ pub(crate) fn all_caps(t: Terms, costs: &[u32]) -> [u64; 128]
         a += 1;
     }
     caps
+}
+
+fn greater(x: u64, y: u64) -> u64
+    ensures { λ r. ⌜ r ≡ max x y ⌝ }
+{
+    if x < y { y } else { x }
+}
+
+// For each row the greatest cap of the rows up to it.
+pub(crate) fn all_tops(caps: &[u64; 128], rows: usize) -> [u64; 128]
+    requires { ⌜ rows ≤ 128 ⌝ }
+    ensures { λ r. ⌜ Tops (now (caps .entry)) r rows ⌝ }
+{
+    let mut tops: [u64; 128] = [0; 128];
+    let mut top: u64 = 0;
+    let mut a: usize = 0;
+    while a < rows {
+        top = greater(top, caps[a]);
+        tops[a] = top;
+        a += 1;
+    }
+    tops
 }
 
 // The floors of all rows.

@@ -4,15 +4,17 @@ ghost use mathlib.Core.Bool.{_&&_};
 ghost use Prim.Native.Nat.{suc, _+_, _*_, _<_, _≤_};
 ghost use lib.Dec.{leb};
 ghost use lib.ListN.{length};
+ghost use Rattle.grid.specs.Rows.{rowsOf};
 ghost use Rattle.exchange.specs.Work.{Lawful};
 ghost use Rattle.exchange.specs.Forms.{holdsRow};
+ghost use Rattle.search.specs.Units.{RowUnits};
 ghost use Rattle.search.specs.Layers.{working, byteSays, needRead, Table, firstRow, CanWalk, Walked};
 use super::Terms;
 use super::UNREACHED;
-use super::holds;
 use super::limits::cap;
 use super::limits::floor;
 use super::limits::wide32;
+use super::units::row_holds;
 
 // What a work byte says: the floor of the row that it names, or the unreached mark.
 fn value(t: Terms, values: &[u32], x: u8) -> u64
@@ -44,6 +46,7 @@ fn need_after(t: Terms, values: &[u32], work: &[u8], j: usize, b: usize) -> u64
 // Whether row b can be delivered at row a with this sum paid. It is tested by the payment of the step before.
 fn deliverable(
     units: &[u16],
+    held: &[u8; 512],
     a: usize,
     b: usize,
     need: u64,
@@ -51,6 +54,7 @@ fn deliverable(
     floor: u64,
     paid: u64,
 ) -> bool
+    requires { ⌜ RowUnits (now units) (now held) (rowsOf (now units)) × (a < rowsOf (now units)) × (b < rowsOf (now units)) ⌝ }
     ensures { λ r. ⌜ r ≡ (holdsRow (now (units .entry)) a b && leb need cap && leb floor paid) ⌝ }
 {
     if cap < need {
@@ -59,7 +63,7 @@ fn deliverable(
     if paid < floor {
         return false;
     }
-    holds(units, a, b)
+    row_holds(units, held, a, b)
 }
 
 // The first row that can be delivered at row a with this sum paid and j steps left after it; the number of rows if none can. No row below
@@ -67,6 +71,7 @@ fn deliverable(
 fn next_row(
     t: Terms,
     units: &[u16],
+    held: &[u8; 512],
     costs: &[u32],
     values: &[u32],
     work: &[u8],
@@ -74,7 +79,7 @@ fn next_row(
     a: usize,
     paid: u64,
 ) -> usize
-    requires { ⌜ Table t (now units) × (a ≤ t .rows) × (suc j * t .rows ≤ length (now work)) ⌝ }
+    requires { ⌜ Table t (now units) × (a ≤ t .rows) × (suc j * t .rows ≤ length (now work)) × RowUnits (now units) (now held) (t .rows) ⌝ }
     ensures { λ r. ⌜ (r ≤ t .rows) × ((a < t .rows) → r ≡ firstRow (working t (now (units .entry)) (now (costs .entry)) (now (values .entry))) (needRead t (now (values .entry)) (now (work .entry)) j) a paid 0 (t .rows)) ⌝ }
 {
     let rows = t.rows;
@@ -83,7 +88,7 @@ fn next_row(
     while b < rows {
         let need = need_after(t, values, work, j, b);
         let least = floor(t, values, b);
-        if deliverable(units, a, b, need, limit, least, paid) {
+        if deliverable(units, held, a, b, need, limit, least, paid) {
             return b;
         }
         b += 1;
@@ -95,6 +100,7 @@ fn next_row(
 pub(crate) fn walk(
     t: Terms,
     units: &[u16],
+    held: &[u8; 512],
     costs: &[u32],
     values: &[u32],
     work: &[u8],
@@ -102,7 +108,7 @@ pub(crate) fn walk(
     places: &mut [u8],
     sums: &mut [u8],
 )
-    requires { ⌜ CanWalk t (now units) (now costs) (now values) (now work) steps (now places) (now sums) ⌝ }
+    requires { ⌜ CanWalk t (now units) (now costs) (now values) (now work) steps (now places) (now sums) × RowUnits (now units) (now held) (t .rows) ⌝ }
     ensures { λ _. ⌜ ((Lawful (working t (now (units .entry)) (now (costs .entry)) (now (values .entry)))) → Walked (working t (now (units .entry)) (now (costs .entry)) (now (values .entry))) steps (now (places .entry)) (now (places .exit)) (now (sums .entry)) (now (sums .exit))) ⌝ }
 {
     let mut left = steps;
@@ -111,7 +117,7 @@ pub(crate) fn walk(
     let mut paid: u32 = 0;
     while 0 < left {
         left -= 1;
-        let b = next_row(t, units, costs, values, work, left, a, wide32(paid));
+        let b = next_row(t, units, held, costs, values, work, left, a, wide32(paid));
         let pay = cap(t, costs, a);
         area::store_u16(places, k, b as u16);
         area::store_u32(sums, k, pay);

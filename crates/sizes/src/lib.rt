@@ -1,15 +1,7 @@
 // Sizes of a contract's parts.
 ghost use mathlib.Core.Path.{_≡_};
 ghost use Prim.Native.Nat.{_<_};
-ghost use lib.ListN.{replicate};
 ghost use Rattle.sizes.specs.Units.{unitsFew};
-
-// The units of each segment of a ladder.
-pub fn ones() -> [u16; 1000]
-    ensures { λ r. ⌜ r ≡ replicate 1000 1 ⌝ }
-{
-    [1u16; 1000]
-}
 
 fn wide(u: u16) -> usize
     ensures { λ r. ⌜ (r ≡ u) × (r < 65536) ⌝ }

@@ -1,52 +1,49 @@
--- `bounds::bounds` meets its promise, by the contracts of its callees. Assumes nothing.
-use mathlib.Core.Path.{refl}
-use borrow.Author.Needs.{needs}
-use Rattle.planning.proofs.ReadLaws.{read-refused, read-accepted, read-stands}
+-- `bounds::bounds` meets its contract, by what was found in the record. Assumes nothing.
+use denote.Ref.{now}
+use mathlib.Core.Path.{subst}
+use Rattle.record.specs.Find.{Finds}
 use Rattle.bounds.proofs.BoundsLaws.{bounds-refused, bounds-read}
+use borrow.Author.Needs.{needs}
 use Rattle.bounds.proofs.bounds.Statement.{statement}
 use Rattle.bounds.proofs.bounds.Tie as tie
 
-slice-aggregate-read : tie.Need-slice-aggregate-read
-slice-aggregate-read c = search needs
+find-requires : tie.Need-find-requires
+find-requires c κs = search needs
 
-slice-aggregate-read-2 : tie.Need-slice-aggregate-read-2
-slice-aggregate-read-2 c = search needs
+enum-known-e : tie.Need-enum-known-e
+enum-known-e c = search needs
 
-read-requires : tie.Need-read-requires
-read-requires c κs = search needs
+enum-known-l : tie.Need-enum-known-l
+enum-known-l c = search needs
 
-enum-known-reply : tie.Need-enum-known-reply
-enum-known-reply c = search needs
+bounds-ladder-requires : tie.Need-bounds-ladder-requires
+bounds-ladder-requires c κs = subst (Finds (now (c .before .before .before .before .before .before .args .bytes))) (c .before .l .given .1) (c .before .before .before .find .ensures)
 
 enum-told : tie.Need-enum-told
 enum-told c = search needs
 
-slice-aggregate-bounds-in : tie.Need-slice-aggregate-bounds-in
-slice-aggregate-bounds-in c = search needs
-
-slice-aggregate-bounds-in-2 : tie.Need-slice-aggregate-bounds-in-2
-slice-aggregate-bounds-in-2 c = search needs
-
-bounds-in-requires : tie.Need-bounds-in-requires
-bounds-in-requires c κs = read-stands _ _ _ refl refl _ _ _ (c .before .before .before .before .before .before .read .ensures) (c .before .before .enum-told .given .1)
+bounds-other-requires : tie.Need-bounds-other-requires
+bounds-other-requires c κs = subst (Finds (now (c .before .before .before .before .before .args .bytes))) (c .enum-told .given .1) (c .before .before .find .ensures)
 
 returns : tie.Need-returns
-returns c = bounds-refused _ _ _ (read-refused _ _ _ refl refl _ _ _ (c .before .before .before .before .before .read .ensures) _ (c .before .reply .given .1))
+returns c = bounds-refused _ _ _ (subst (Finds (now (c .before .before .before .before .before .before .args .bytes))) (c .before .e .given .1) (c .before .before .before .find .ensures))
 
 returns-2 : tie.Need-returns-2
-returns-2 c = bounds-read _ _ _ (read-accepted _ _ _ refl refl _ _ _ (c .before .before .before .before .before .before .before .read .ensures) (c .before .before .before .enum-told .given .1)) (c .bounds-in .ensures)
+returns-2 c = bounds-read _ _ _ ((subst (Finds (now (c .before .before .before .before .before .before .before .args .bytes))) (c .before .before .l .given .1) (c .before .before .before .before .find .ensures)) .says) (c .bounds-ladder .ensures)
+
+returns-3 : tie.Need-returns-3
+returns-3 c = search needs
 
 pub bounds-spec : {M : Type 1} → statement M
 bounds-spec =
     tie.close
     (tie.spec
-    slice-aggregate-read
-    slice-aggregate-read-2
-    read-requires
-    enum-known-reply
+    find-requires
+    enum-known-e
+    enum-known-l
+    bounds-ladder-requires
     enum-told
-    slice-aggregate-bounds-in
-    slice-aggregate-bounds-in-2
-    bounds-in-requires
+    bounds-other-requires
     returns
-    returns-2)
+    returns-2
+    returns-3)

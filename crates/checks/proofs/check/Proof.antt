@@ -1,57 +1,50 @@
--- `checks::check` meets its promise, by the contracts of its callees. Assumes nothing.
-use mathlib.Core.Path.{refl}
+-- `checks::check` meets its contract, by what was found in the record. Assumes nothing.
 use denote.Ref.{now}
+use mathlib.Core.Path.{subst}
 use Rattle.exchange.specs.PlanIn.{planIn}
-use borrow.Author.Needs.{needs}
-use Rattle.planning.proofs.ReadLaws.{read-refused, read-accepted, read-stands}
+use Rattle.record.specs.Find.{Finds}
 use Rattle.checks.proofs.CheckLaws.{check-refused, check-read}
+use borrow.Author.Needs.{needs}
 use Rattle.checks.proofs.check.Statement.{statement}
 use Rattle.checks.proofs.check.Tie as tie
 
-slice-aggregate-read : tie.Need-slice-aggregate-read
-slice-aggregate-read c = search needs
+find-requires : tie.Need-find-requires
+find-requires c κs = search needs
 
-slice-aggregate-read-2 : tie.Need-slice-aggregate-read-2
-slice-aggregate-read-2 c = search needs
+enum-known-e : tie.Need-enum-known-e
+enum-known-e c = search needs
 
-read-requires : tie.Need-read-requires
-read-requires c κs = search needs
+enum-known-l : tie.Need-enum-known-l
+enum-known-l c = search needs
 
-enum-known-reply : tie.Need-enum-known-reply
-enum-known-reply c = search needs
+check-ladder-requires : tie.Need-check-ladder-requires
+check-ladder-requires c κs = subst (Finds (now (c .before .before .before .before .before .before .before .before .args .bytes))) (c .before .l .given .1) (c .before .before .before .find .ensures)
 
 enum-told : tie.Need-enum-told
 enum-told c = search needs
 
-slice-aggregate-check-contract : tie.Need-slice-aggregate-check-contract
-slice-aggregate-check-contract c = search needs
-
-slice-aggregate-check-contract-2 : tie.Need-slice-aggregate-check-contract-2
-slice-aggregate-check-contract-2 c = search needs
-
-check-contract-requires : tie.Need-check-contract-requires
-check-contract-requires c κs = read-stands _ _ _ refl refl _ _ _ (c .before .before .before .before .before .before .read .ensures) (c .before .before .enum-told .given .1)
+check-other-requires : tie.Need-check-other-requires
+check-other-requires c κs = subst (Finds (now (c .before .before .before .before .before .before .before .args .bytes))) (c .enum-told .given .1) (c .before .before .find .ensures)
 
 returns : tie.Need-returns
-returns c = check-refused _ _ _ _ _ _ (read-refused _ _ _ refl refl _ _ _ (c .before .before .before .before .before .read .ensures) _ (c .before .reply .given .1))
+returns c = check-refused _ _ _ _ _ _ (subst (Finds (now (c .before .before .before .before .before .before .before .before .args .bytes))) (c .before .e .given .1) (c .before .before .before .find .ensures))
 
 returns-2 : tie.Need-returns-2
-returns-2 c =
-    let a = c .before .before .before .before .before .before .before .before .before .before .before .before .before .before .args in
-    check-read _ (a .count) (now (a .places)) (now (a .sums)) (now (a .order)) (planIn (a .count) (now (a .places)) (now (a .sums)))
-    (read-accepted _ _ _ refl refl _ _ _ (c .before .before .before .before .before .before .before .read .ensures) (c .before .before .before .enum-told .given .1)) _ (c .check-contract .ensures)
+returns-2 c = check-read _ (c .before .before .before .before .before .before .before .before .before .args .count) (now (c .before .before .before .before .before .before .before .before .before .args .places)) (now (c .before .before .before .before .before .before .before .before .before .args .sums)) (now (c .before .before .before .before .before .before .before .before .before .args .order)) (planIn (c .before .before .before .before .before .before .before .before .before .args .count) (now (c .before .before .before .before .before .before .before .before .before .args .places)) (now (c .before .before .before .before .before .before .before .before .before .args .sums))) ((subst (Finds (now (c .before .before .before .before .before .before .before .before .before .args .bytes))) (c .before .before .l .given .1) (c .before .before .before .before .find .ensures)) .says) _ (c .check-ladder .ensures)
+
+returns-3 : tie.Need-returns-3
+returns-3 c = search needs
 
 pub check-spec : {M : Type 1} → statement M
 check-spec =
     tie.close
     (tie.spec
-    slice-aggregate-read
-    slice-aggregate-read-2
-    read-requires
-    enum-known-reply
+    find-requires
+    enum-known-e
+    enum-known-l
+    check-ladder-requires
     enum-told
-    slice-aggregate-check-contract
-    slice-aggregate-check-contract-2
-    check-contract-requires
+    check-other-requires
     returns
-    returns-2)
+    returns-2
+    returns-3)

@@ -1,62 +1,18 @@
-use Prim.Native.Nat.{_-_}
-use native.Mathlib.Omega.{arith}
-use denote.Ref.{now}
-use lib.ListN.{length, length-set}
-use Rattle.area.specs.Entries.{entries}
-use Rattle.grid.proofs.MapLaws.{standing-le}
-use Rattle.grid.proofs.FillLaws.{Filling, filling-start, filling-turn, filling-length, filling-done}
+use borrow.Author.Needs.{needs}
 use Rattle.grid.proofs.fill.Statement.{statement}
 use Rattle.grid.proofs.fill.Tie as tie
 
-abbrev Inv-loop : tie.InvT-loop
-Inv-loop units map given cells₀ used₀ r₀ cells used r = Filling units map (entries 4 given) cells₀ cells used r
+fill-cells-requires : tie.Need-fill-cells-requires
+fill-cells-requires c κs = tt
 
-abbrev μ-loop : tie.MeasureT-loop
-μ-loop units map given cells₀ used₀ r₀ cells used r = length cells - r
-
-loop-holds : tie.Need-loop-holds Inv-loop μ-loop
-loop-holds c = filling-start _ _ _ _
-
-cell-at-requires : tie.Need-cell-at-requires Inv-loop μ-loop
-cell-at-requires c κs = (omega (arith, standing-le (now (c .before .before .before .before .before .before .before .args .map)) (c .before .before .loop .r), c .before .before .loop .inv .used-is), c .before .loop-test .taken)
-
-mul-cells : tie.Need-mul-cells Inv-loop μ-loop
-mul-cells c = omega arith
-
-slice-write-cells : tie.Need-slice-write-cells Inv-loop μ-loop
-slice-write-cells c = omega arith
-
-add-r : tie.Need-add-r Inv-loop μ-loop
-add-r c = omega arith
-
-loop-less : tie.Need-loop-less Inv-loop μ-loop
-loop-less c = simp length-set (omega arith)
-
-loop-again : tie.Need-loop-again Inv-loop μ-loop
-loop-again c = filling-turn (c .before .before .before .loop .inv) (c .before .before .loop-test .taken) (c .cell-at .ensures .0) (c .cell-at .ensures .1)
-
-all-rise-requires : tie.Need-all-rise-requires Inv-loop μ-loop
+all-rise-requires : tie.Need-all-rise-requires
 all-rise-requires c κs = tt
 
-same-length : tie.Need-same-length Inv-loop μ-loop
-same-length c = filling-length (c .before .before .before .loop .inv)
+same-length : tie.Need-same-length
+same-length c = search needs
 
-returns : tie.Need-returns Inv-loop μ-loop
-returns c = filling-done (c .before .before .before .loop .inv) (c .before .before .loop-test .left) (c .all-rise .ensures)
+returns : tie.Need-returns
+returns c = record { cells-are = c .before .before .before .before .fill-cells .ensures; rises-is = c .all-rise .ensures }
 
 pub fill-spec : {M : Type 1} → statement M
-fill-spec =
-    tie.close
-    (tie.spec
-    Inv-loop
-    μ-loop
-    loop-holds
-    cell-at-requires
-    mul-cells
-    slice-write-cells
-    add-r
-    loop-less
-    loop-again
-    all-rise-requires
-    same-length
-    returns)
+fill-spec = tie.close (tie.spec fill-cells-requires all-rise-requires same-length returns)

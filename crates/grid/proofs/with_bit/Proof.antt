@@ -1,14 +1,10 @@
-use mathlib.Core.Path.{_≡_, _∙_}
-use Prim.Native.Nat.{ℕ, suc, _*_, _%_, _^_, _<_}
-use native.Mathlib.Nat.{one-mul}
+use Prim.Native.Nat.{suc}
 use native.Mathlib.Omega.{arith}
-use lib.Pow.{pow-mono, shl-exact}
+use lib.Pow.{pow-mono}
+use Rattle.grid.proofs.MapLaws.{shifted}
 use borrow.Author.Needs.{needs}
 use Rattle.grid.proofs.with_bit.Statement.{statement}
 use Rattle.grid.proofs.with_bit.Tie as tie
-
-shifted : (k : ℕ) → k < 8 → 1 * 2 ^ k % 256 ≡ 2 ^ k
-shifted k h = shl-exact 1 k 8 (omega arith) (omega arith) ∙ one-mul (2 ^ k)
 
 cast-result : tie.Need-cast-result
 cast-result c = search needs
@@ -19,10 +15,10 @@ shl-result c = search needs
 add-result : tie.Need-add-result
 add-result c =
     let k = c .args .k in
-    rw (shifted k (c .pre .1)) (record { fits = omega (arith, pow-mono {i = suc k} {j = 8} (c .pre .1)) })
+    rw (shifted k 8 (c .pre .1)) (record { fits = omega (arith, pow-mono {i = suc k} {j = 8} (c .pre .1)) })
 
 returns : tie.Need-returns
-returns c = rw (shifted _ (c .pre .1))
+returns c = rw (shifted _ 8 (c .pre .1))
 
 pub with-bit-spec : {M : Type 1} → statement M
 with-bit-spec = tie.close (tie.spec cast-result shl-result add-result returns)

@@ -1,37 +1,31 @@
-use mathlib.Core.Path.{refl}
 use denote.Ref.{now}
-use Rattle.planning.proofs.ReadLaws.{read-refused, read-accepted, read-stands}
+use mathlib.Core.Path.{subst}
+use Rattle.record.specs.Find.{Finds}
 use Rattle.plans.proofs.PlanLaws.{refused-plans, accepted-plans}
 use borrow.Author.Needs.{needs}
 use Rattle.plans.proofs.plan.Statement.{statement}
 use Rattle.plans.proofs.plan.Tie as tie
 
-slice-aggregate-read : tie.Need-slice-aggregate-read
-slice-aggregate-read c = search needs
+find-requires : tie.Need-find-requires
+find-requires c κs = search needs
 
-slice-aggregate-read-2 : tie.Need-slice-aggregate-read-2
-slice-aggregate-read-2 c = search needs
+enum-known-e : tie.Need-enum-known-e
+enum-known-e c = search needs
 
-read-requires : tie.Need-read-requires
-read-requires c κs = search needs
+enum-known-l : tie.Need-enum-known-l
+enum-known-l c = search needs
 
-enum-known-reply : tie.Need-enum-known-reply
-enum-known-reply c = search needs
+plan-ladder-requires : tie.Need-plan-ladder-requires
+plan-ladder-requires c κs = subst (Finds (now (c .before .before .before .before .before .before .before .before .before .before .before .before .before .args .bytes))) (c .before .before .before .before .before .l .given .1) (c .before .before .before .before .before .before .before .find .ensures)
 
 enum-told : tie.Need-enum-told
 enum-told c = search needs
 
-slice-aggregate-plan-contract : tie.Need-slice-aggregate-plan-contract
-slice-aggregate-plan-contract c = search needs
-
-slice-aggregate-plan-contract-2 : tie.Need-slice-aggregate-plan-contract-2
-slice-aggregate-plan-contract-2 c = search needs
-
-plan-contract-requires : tie.Need-plan-contract-requires
-plan-contract-requires c κs = read-stands _ _ _ refl refl _ _ _ (c .before .before .before .before .before .before .before .before .before .before .read .ensures) (c .before .before .before .before .before .before .enum-told .given .1)
+plan-other-requires : tie.Need-plan-other-requires
+plan-other-requires c κs = subst (Finds (now (c .before .before .before .before .before .before .before .before .before .before .before .before .args .bytes))) (c .before .before .before .before .enum-told .given .1) (c .before .before .before .before .before .before .find .ensures)
 
 returns : tie.Need-returns
-returns c = refused-plans (now (c .before .before .before .before .before .before .before .before .before .before .before .before .before .args .bytes)) _ _ (read-refused _ _ _ refl refl _ _ _ (c .before .before .before .before .before .read .ensures) _ (c .before .reply .given .1))
+returns c = refused-plans (now (c .before .before .before .before .before .before .before .before .before .args .bytes)) _ _ (subst (Finds (now (c .before .before .before .before .before .before .before .before .before .args .bytes))) (c .before .e .given .1) (c .before .before .before .find .ensures))
 
 same-length : tie.Need-same-length
 same-length c = search needs
@@ -46,23 +40,41 @@ same-length-4 : tie.Need-same-length-4
 same-length-4 c = search needs
 
 returns-2 : tie.Need-returns-2
-returns-2 c = accepted-plans (now (c .before .before .before .before .before .before .before .before .before .before .before .before .before .before .before .before .before .before .before .before .before .before .before .before .before .before .before .args .bytes)) _ _ _ _ (read-accepted _ _ _ refl refl _ _ _ (c .before .before .before .before .before .before .before .before .before .before .before .before .before .before .before .before .before .before .before .read .ensures) (c .before .before .before .before .before .before .before .before .before .before .before .before .before .before .before .enum-told .given .1)) (c .before .before .before .before .before .before .before .before .plan-contract .ensures)
+returns-2 c = accepted-plans (now (c .before .before .before .before .before .before .before .before .before .before .before .before .before .before .before .before .before .before .before .before .before .before .args .bytes)) _ _ _ _ ((subst (Finds (now (c .before .before .before .before .before .before .before .before .before .before .before .before .before .before .before .before .before .before .before .before .before .before .args .bytes))) (c .before .before .before .before .before .before .before .before .before .before .before .before .before .before .l .given .1) (c .before .before .before .before .before .before .before .before .before .before .before .before .before .before .before .before .find .ensures)) .says) (c .before .before .before .before .before .before .before .before .plan-ladder .ensures)
+
+same-length-5 : tie.Need-same-length-5
+same-length-5 c = search needs
+
+same-length-6 : tie.Need-same-length-6
+same-length-6 c = search needs
+
+same-length-7 : tie.Need-same-length-7
+same-length-7 c = search needs
+
+same-length-8 : tie.Need-same-length-8
+same-length-8 c = search needs
+
+returns-3 : tie.Need-returns-3
+returns-3 c = search needs
 
 pub plan-spec : {M : Type 1} → statement M
 plan-spec =
     tie.close
     (tie.spec
-    slice-aggregate-read
-    slice-aggregate-read-2
-    read-requires
-    enum-known-reply
+    find-requires
+    enum-known-e
+    enum-known-l
+    plan-ladder-requires
     enum-told
-    slice-aggregate-plan-contract
-    slice-aggregate-plan-contract-2
-    plan-contract-requires
+    plan-other-requires
     returns
     same-length
     same-length-2
     same-length-3
     same-length-4
-    returns-2)
+    returns-2
+    same-length-5
+    same-length-6
+    same-length-7
+    same-length-8
+    returns-3)

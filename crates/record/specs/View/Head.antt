@@ -1,6 +1,7 @@
 -- What the code's head stands for.
 use mathlib.Core.Path.{_≡_}
-use Prim.Native.Nat.{_≤_}
+use mathlib.Core.List.{List}
+use Prim.Native.Nat.{ℕ, _≤_}
 use Rattle.contract.specs.Res.{Res, refused, ok}
 use Rattle.contract.specs.Contract.{limit, numberOf}
 use Rattle.contract.specs.Field as field
@@ -43,3 +44,8 @@ pub record Heads (answer : Res field.Head) (r : HeadReply) : Type 0 where
 pub record ReadHead (f : Form) (h : field.Head) : Type 0 where
   pub form-is : h .form ≡ f
   pub small : Small h
+
+-- the head of the record s of a ladder
+pub record LadderHead (s : List ℕ) (h : field.Head) : Type 0 where
+  pub said : field.headAt s ≡ ok h
+  pub read : ReadHead Form.Ladder h

@@ -63,10 +63,12 @@ most p = cond p 8 1000
 abbrev pub wide : Bool → ℕ
 wide p = cond p 1 2
 
--- how many segments, and where the first begins
+-- how many segments, where the first begins, and the totals of cost and value
 pub record Found : Type 0 where
   pub count : ℕ
   pub first : ℕ
+  pub cost : ℕ
+  pub value : ℕ
 
 -- the segments from index i to the record's end
 unfoldable pub found : Bool → List ℕ → ℕ → Res Found
@@ -74,17 +76,24 @@ found p s i =
     bind (segmentCount p s i) (λ n.
     bind (segments p s (n .value) (from (n .next))) (λ c.
     test 7 (eqb (c .at) (length s)) (
-    ok (record { count = n .value; first = n .next }))))
+    ok (record { count = n .value; first = n .next; cost = c .cost; value = c .value }))))
 
 -- the number of a refusal, or the segments found
 abbrev pub viewRun : RunReply → Res Found
 viewRun (RunReply.Refused e) = refused (numberOf e)
-viewRun (RunReply.Found r) = ok (record { count = r .count; first = r .first })
+viewRun (RunReply.Found r) = ok (record { count = r .count; first = r .first; cost = r .cost; value = r .value })
 
--- the segments found reach to the record's end
+-- segments that reach to the record's end, with totals within the limit
+pub record ToEnd (p : Bool) (s : List ℕ) (r : Found) : Type 0 where
+  pub ends : r .first + r .count * size p ≡ length s
+  pub few : r .count ≤ most p
+  pub cost : r .cost ≤ limit
+  pub value : r .value ≤ limit
+
+-- the segments found are so
 abbrev pub Inside : Bool → List ℕ → Res Found → Type 0
 Inside p s (refused n) = Unit {0}
-Inside p s (ok r) = (r .first + r .count * size p ≡ length s) × (r .count ≤ most p)
+Inside p s (ok r) = ToEnd p s r
 
 -- what finding the segments gives
 pub record Runs (p : Bool) (s : List ℕ) (i : ℕ) (r : RunReply) : Type 0 where

@@ -57,14 +57,23 @@ returns-2 c =
     fitted (m .ensures) (c .before .before .before .before .before .before .before .if1 .left) (c .before .before .before .before .before .before .row-count .ensures) in
     λ r. (suits-yes (now (x .units)) (now (x .costs)) (now (x .values)) (now (x .places)) (now (x .sums)) (now (x .work)) (f .suit), (no-start f (sym (c .before .before .before .before .before .starts .ensures) ∙ not-true (c .before .before .before .before .before .starts .result) (c .before .before .before .before .if2 .taken)) r, (refl, (refl, c .before .before .clear .ensures))))
 
+all-units-requires : tie.Need-all-units-requires
+all-units-requires c κs =
+    let m = c .before .before .before .before .most-steps in
+    let r = c .before .before .row-count in
+    let x = c .before .before .before .before .before .before .before .before .before .before .before .before .before .before .args in
+    let f : Fitted (record { sides = x .sides; rows = r .result }) (now (x .units)) (now (x .costs)) (now (x .values)) (now (x .places)) (now (x .sums)) (now (x .work)) (m .result) =
+    fitted (m .ensures) (c .before .before .before .if1 .left) (r .ensures) in
+    f .good .few
+
 count-steps-requires : tie.Need-count-steps-requires
 count-steps-requires c κs =
-    let m = c .before .before .before .before .before .most-steps in
-    let r = c .before .before .before .row-count in
-    let x = c .before .before .before .before .before .before .before .before .before .before .before .before .before .before .before .args in
+    let m = c .before .before .before .before .before .before .before .most-steps in
+    let r = c .before .before .before .before .before .row-count in
+    let x = c .before .before .before .before .before .before .before .before .before .before .before .before .before .before .before .before .before .args in
     let f : Fitted (record { sides = x .sides; rows = r .result }) (now (x .units)) (now (x .costs)) (now (x .values)) (now (x .places)) (now (x .sums)) (now (x .work)) (m .result) =
-    fitted (m .ensures) (c .before .before .before .before .if1 .left) (r .ensures) in
-    (f .good, work-suits f)
+    fitted (m .ensures) (c .before .before .before .before .before .before .if1 .left) (r .ensures) in
+    (f .good, c .before .before .all-units .ensures, work-suits f)
 
 clear-requires-2 : tie.Need-clear-requires-2
 clear-requires-2 c κs = search needs
@@ -80,22 +89,22 @@ same-length-9 c = search needs
 
 returns-3 : tie.Need-returns-3
 returns-3 c =
-    let m = c .before .before .before .before .before .before .before .before .before .before .before .before .before .most-steps in
+    let m = c .before .before .before .before .before .before .before .before .before .before .before .before .before .before .before .most-steps in
     let n = c .before .before .before .before .before .before .before .count-steps in
-    let x = c .before .before .before .before .before .before .before .before .before .before .before .before .before .before .before .before .before .before .before .before .before .before .before .args in
-    let f : Fitted (record { sides = x .sides; rows = c .before .before .before .before .before .before .before .before .before .before .before .row-count .result }) (now (x .units)) (now (x .costs)) (now (x .values)) (now (x .places)) (now (x .sums)) (now (x .work)) (m .result) =
-    fitted (m .ensures) (c .before .before .before .before .before .before .before .before .before .before .before .before .if1 .left) (c .before .before .before .before .before .before .before .before .before .before .before .row-count .ensures) in
-    λ r. (suits-yes (now (x .units)) (now (x .costs)) (now (x .values)) (now (x .places)) (now (x .sums)) (now (x .work)) (f .suit), (no-count f (n .ensures) (c .before .before .before .before .if3 .taken) r, (refl, (refl, rw (← n .kept .1 .1 .1 .1 .1 .0) (c .before .before .clear2 .ensures)))))
+    let x = c .before .before .before .before .before .before .before .before .before .before .before .before .before .before .before .before .before .before .before .before .before .before .before .before .before .args in
+    let f : Fitted (record { sides = x .sides; rows = c .before .before .before .before .before .before .before .before .before .before .before .before .before .row-count .result }) (now (x .units)) (now (x .costs)) (now (x .values)) (now (x .places)) (now (x .sums)) (now (x .work)) (m .result) =
+    fitted (m .ensures) (c .before .before .before .before .before .before .before .before .before .before .before .before .before .before .if1 .left) (c .before .before .before .before .before .before .before .before .before .before .before .before .before .row-count .ensures) in
+    λ r. (suits-yes (now (x .units)) (now (x .costs)) (now (x .values)) (now (x .places)) (now (x .sums)) (now (x .work)) (f .suit), (no-count f (n .ensures) (c .before .before .before .before .if3 .taken) r, (refl, (refl, rw (← n .kept .1 .1 .1 .1 .1 .1 .0) (c .before .before .clear2 .ensures)))))
 
 walk-requires : tie.Need-walk-requires
 walk-requires c κs =
-    let m = c .before .before .before .before .before .before .before .before .before .before .before .before .most-steps in
-    let r = c .before .before .before .before .before .before .before .before .before .before .row-count in
-    let n = c .before .before .before .before .before .before .count-steps in
-    let x = c .before .before .before .before .before .before .before .before .before .before .before .before .before .before .before .before .before .before .before .before .before .before .args in
+    let m = c .before .before .before .before .before .before .before .before .before .before .before .before .before .before .before .most-steps in
+    let r = c .before .before .before .before .before .before .before .before .before .before .before .before .before .row-count in
+    let n = c .before .before .before .before .before .before .before .count-steps in
+    let x = c .before .before .before .before .before .before .before .before .before .before .before .before .before .before .before .before .before .before .before .before .before .before .before .before .before .args in
     let f : Fitted (record { sides = x .sides; rows = r .result }) (now (x .units)) (now (x .costs)) (now (x .values)) (now (x .places)) (now (x .sums)) (now (x .work)) (m .result) =
-    fitted (m .ensures) (c .before .before .before .before .before .before .before .before .before .before .before .if1 .left) (r .ensures) in
-    can-walk f (n .ensures) (c .before .before .before .if3 .left) (omega (arith, c .before .before .before .before .before .before .before .before .before .before .before .before .before .before .before .before .before .before .before .before .before .before .good)) (n .kept .1 .1 .1 .1 .1 .0)
+    fitted (m .ensures) (c .before .before .before .before .before .before .before .before .before .before .before .before .before .before .if1 .left) (r .ensures) in
+    (can-walk f (n .ensures) (c .before .before .before .before .if3 .left) (omega (arith, c .before .before .before .before .before .before .before .before .before .before .before .before .before .before .before .before .before .before .before .before .before .before .before .before .before .good)) (n .kept .1 .1 .1 .1 .1 .1 .0), c .before .before .before .before .before .before .before .before .before .before .all-units .ensures)
 
 clear-u16-requires : tie.Need-clear-u16-requires
 clear-u16-requires c κs = search needs
@@ -117,17 +126,17 @@ same-length-12 c = search needs
 
 returns-4 : tie.Need-returns-4
 returns-4 c =
-    let m = c .before .before .before .before .before .before .before .before .before .before .before .before .before .before .before .before .before .before .before .before .before .before .before .before .before .before .before .before .before .most-steps in
-    let n = c .before .before .before .before .before .before .before .before .before .before .before .before .before .before .before .before .before .before .before .before .before .before .before .count-steps in
-    let x = c .before .before .before .before .before .before .before .before .before .before .before .before .before .before .before .before .before .before .before .before .before .before .before .before .before .before .before .before .before .before .before .before .before .before .before .before .before .before .before .args in
-    let f : Fitted (record { sides = x .sides; rows = c .before .before .before .before .before .before .before .before .before .before .before .before .before .before .before .before .before .before .before .before .before .before .before .before .before .before .before .row-count .result }) (now (x .units)) (now (x .costs)) (now (x .values)) (now (x .places)) (now (x .sums)) (now (x .work)) (m .result) =
-    fitted (m .ensures) (c .before .before .before .before .before .before .before .before .before .before .before .before .before .before .before .before .before .before .before .before .before .before .before .before .before .before .before .before .if1 .left) (c .before .before .before .before .before .before .before .before .before .before .before .before .before .before .before .before .before .before .before .before .before .before .before .before .before .before .before .row-count .ensures) in
+    let m = c .before .before .before .before .before .before .before .before .before .before .before .before .before .before .before .before .before .before .before .before .before .before .before .before .before .before .before .before .before .before .before .before .most-steps in
+    let n = c .before .before .before .before .before .before .before .before .before .before .before .before .before .before .before .before .before .before .before .before .before .before .before .before .count-steps in
+    let x = c .before .before .before .before .before .before .before .before .before .before .before .before .before .before .before .before .before .before .before .before .before .before .before .before .before .before .before .before .before .before .before .before .before .before .before .before .before .before .before .before .before .before .args in
+    let f : Fitted (record { sides = x .sides; rows = c .before .before .before .before .before .before .before .before .before .before .before .before .before .before .before .before .before .before .before .before .before .before .before .before .before .before .before .before .before .before .row-count .result }) (now (x .units)) (now (x .costs)) (now (x .values)) (now (x .places)) (now (x .sums)) (now (x .work)) (m .result) =
+    fitted (m .ensures) (c .before .before .before .before .before .before .before .before .before .before .before .before .before .before .before .before .before .before .before .before .before .before .before .before .before .before .before .before .before .before .before .if1 .left) (c .before .before .before .before .before .before .before .before .before .before .before .before .before .before .before .before .before .before .before .before .before .before .before .before .before .before .before .before .before .before .row-count .ensures) in
     λ r. (
       suits-yes (now (x .units)) (now (x .costs)) (now (x .values)) (now (x .places)) (now (x .sums)) (now (x .work)) (f .suit),
       (
-        planned-success f (n .ensures) (c .before .before .before .before .before .before .before .before .before .before .before .before .before .before .before .before .before .before .before .before .if3 .left) (omega (arith, c .before .before .before .before .before .before .before .before .before .before .before .before .before .before .before .before .before .before .before .before .before .before .before .before .before .before .before .before .before .before .before .before .before .before .before .before .before .before .before .good)) (sym (c .before .before .before .before .before .before .before .before .before .before .before .before .before .before .before .before .before .before .before .before .before .before .before .before .before .before .starts .ensures) ∙ not-false (c .before .before .before .before .before .before .before .before .before .before .before .before .before .before .before .before .before .before .before .before .before .before .before .before .before .before .starts .result) (c .before .before .before .before .before .before .before .before .before .before .before .before .before .before .before .before .before .before .before .before .before .before .before .before .before .if2 .left))
+        planned-success f (n .ensures) (c .before .before .before .before .before .before .before .before .before .before .before .before .before .before .before .before .before .before .before .before .before .if3 .left) (omega (arith, c .before .before .before .before .before .before .before .before .before .before .before .before .before .before .before .before .before .before .before .before .before .before .before .before .before .before .before .before .before .before .before .before .before .before .before .before .before .before .before .before .before .before .good)) (sym (c .before .before .before .before .before .before .before .before .before .before .before .before .before .before .before .before .before .before .before .before .before .before .before .before .before .before .before .before .before .starts .ensures) ∙ not-false (c .before .before .before .before .before .before .before .before .before .before .before .before .before .before .before .before .before .before .before .before .before .before .before .before .before .before .before .before .before .starts .result) (c .before .before .before .before .before .before .before .before .before .before .before .before .before .before .before .before .before .before .before .before .before .before .before .before .before .before .before .before .if2 .left))
             (c .before .before .before .before .before .before .before .before .before .before .before .before .before .before .before .before .walk .ensures) (c .before .before .before .before .before .before .before .before .before .before .clear-u16 .ensures) (c .before .before .before .before .before .before .clear-u32 .ensures) r,
-        rw (← n .kept .1 .1 .1 .1 .1 .0) (c .before .before .clear3 .ensures),
+        rw (← n .kept .1 .1 .1 .1 .1 .1 .0) (c .before .before .clear3 .ensures),
       ),
     )
 
@@ -147,6 +156,7 @@ plan-spec =
     same-length-5
     same-length-6
     returns-2
+    all-units-requires
     count-steps-requires
     clear-requires-2
     same-length-7

@@ -1,82 +1,47 @@
--- `checks::rows::follow` meets its contract. The invariant: the entries before i are steps, and row and payment stand after them.
--- Assumes nothing.
-use Prim.Native.Nat.{_-_}
+-- `checks::rows::follow` meets its contract, by that of `follow_steps`. Assumes nothing.
 use native.Mathlib.Omega.{arith}
+use Rattle.checks.proofs.RowLaws.{some-rows, few-costs, last-value, ready}
 use borrow.Author.Needs.{needs}
-use Rattle.checks.proofs.RowLaws.{Passed, some-rows, passed-start, passed-next, above, no-step, wrong-row, wrong-sum, arrived}
 use Rattle.checks.proofs.rows.follow.Statement.{statement}
 use Rattle.checks.proofs.rows.follow.Tie as tie
 
-abbrev Inv-loop : tie.InvT-loop
-Inv-loop sides units costs values count places sums last row₀ paid₀ i₀ row paid i = Passed sides units costs values count places sums row paid i
-
-abbrev μ-loop : tie.MeasureT-loop
-μ-loop sides units costs values count places sums last row₀ paid₀ i₀ row paid i = count - i
-
-sub-last : tie.Need-sub-last Inv-loop μ-loop
+sub-last : tie.Need-sub-last
 sub-last c = some-rows _ _ _ _ _ _ _ (c .before .before .before .before .before .pre)
 
-loop-holds : tie.Need-loop-holds Inv-loop μ-loop
-loop-holds c = passed-start _ _ _ _ _ _ _ (c .before .before .before .before .before .pre)
+mul-t11 : tie.Need-mul-t11
+mul-t11 c = search needs
 
-entry-u16-requires : tie.Need-entry-u16-requires Inv-loop μ-loop
-entry-u16-requires c κs = tt
+shared-slice-read-t13 : tie.Need-shared-slice-read-t13
+shared-slice-read-t13 c = omega (arith, some-rows _ _ _ _ _ _ _ (c .before .before .before .before .before .before .pre))
 
-cast-next : tie.Need-cast-next Inv-loop μ-loop
-cast-next c = search needs
+mul-t14 : tie.Need-mul-t14
+mul-t14 c = search needs
 
-entry-u32-requires : tie.Need-entry-u32-requires Inv-loop μ-loop
-entry-u32-requires c κs = tt
+shared-slice-read-t16 : tie.Need-shared-slice-read-t16
+shared-slice-read-t16 c = last-value _ _ _ _ _ _ _ (c .before .before .before .before .before .before .before .pre)
 
-returns : tie.Need-returns Inv-loop μ-loop
-returns c =
-    above _ _ _ _ _ _ _ (c .before .before .before .before .before .before .before .before .before .before .pre) (c .before .before .before .before .loop .inv) (c .before .before .before .loop-test .taken) (c .before .before .entry-u16 .ensures) (c .before .entry-u32 .ensures) (c .if1 .taken)
+add-all-units : tie.Need-add-all-units
+add-all-units c = search needs
 
-is-step-requires : tie.Need-is-step-requires Inv-loop μ-loop
-is-step-requires c κs = search needs
+all-units-requires : tie.Need-all-units-requires
+all-units-requires c κs = omega (arith, some-rows _ _ _ _ _ _ _ (c .before .before .before .before .before .before .before .pre), few-costs _ _ _ _ _ _ _ (c .before .before .before .before .before .before .before .pre))
 
-returns-2 : tie.Need-returns-2 Inv-loop μ-loop
-returns-2 c =
-    no-step _ _ _ _ _ _ _ (c .before .before .before .before .before .before .before .before .before .before .before .before .pre) (c .before .before .before .before .before .before .loop .inv) (c .before .before .before .before .before .loop-test .taken) (c .before .before .before .before .entry-u16 .ensures) (c .before .before .before .entry-u32 .ensures) (c .before .before .if1 .left)
-    (c .before .is-step .ensures) (c .if2 .taken)
+follow-steps-requires : tie.Need-follow-steps-requires
+follow-steps-requires c κs = (c .before .before .before .before .before .before .before .before .before .pre, ready _ _ _ _ _ _ _ (c .before .before .before .before .before .before .before .before .before .pre) (c .before .all-units .ensures))
 
-add-i : tie.Need-add-i Inv-loop μ-loop
-add-i c = omega (arith, c .before .before .before .before .before .loop-test .taken, c .before .before .before .before .before .before .before .before .before .before .before .before .fits .count .fits)
-
-loop-less : tie.Need-loop-less Inv-loop μ-loop
-loop-less c = omega (arith, c .before .before .before .before .before .loop-test .taken)
-
-loop-again : tie.Need-loop-again Inv-loop μ-loop
-loop-again c =
-    passed-next _ _ _ _ _ _ _ (c .before .before .before .before .before .before .before .before .before .before .before .before .pre) (c .before .before .before .before .before .before .loop .inv) (c .before .before .before .before .before .loop-test .taken) (c .before .before .before .before .entry-u16 .ensures) (c .before .before .before .entry-u32 .ensures) (c .before .before .if1 .left)
-    (c .before .is-step .ensures) (c .if2 .left)
-
-returns-3 : tie.Need-returns-3 Inv-loop μ-loop
-returns-3 c = wrong-row _ _ _ _ _ _ _ (c .before .before .before .before .before .before .before .before .pre) (c .before .before .loop .inv) (c .before .loop-test .left) (c .if3 .taken)
-
-returns-4 : tie.Need-returns-4 Inv-loop μ-loop
-returns-4 c = wrong-sum _ _ _ _ _ _ _ (c .before .before .before .before .before .before .before .before .before .before .pre) (c .before .before .before .before .loop .inv) (c .before .before .before .loop-test .left) (c .if4 .taken)
-
-returns-5 : tie.Need-returns-5 Inv-loop μ-loop
-returns-5 c = arrived _ _ _ _ _ _ _ (c .before .before .before .before .before .before .before .before .before .before .pre) (c .before .before .before .before .loop .inv) (c .before .before .before .loop-test .left) (c .before .before .if3 .left) (c .if4 .left)
+returns : tie.Need-returns
+returns c = search needs
 
 pub follow-spec : {M : Type 1} → statement M
 follow-spec =
     tie.close
     (tie.spec
-    Inv-loop
-    μ-loop
     sub-last
-    loop-holds
-    entry-u16-requires
-    cast-next
-    entry-u32-requires
-    returns
-    is-step-requires
-    returns-2
-    add-i
-    loop-less
-    loop-again
-    returns-3
-    returns-4
-    returns-5)
+    mul-t11
+    shared-slice-read-t13
+    mul-t14
+    shared-slice-read-t16
+    add-all-units
+    all-units-requires
+    follow-steps-requires
+    returns)

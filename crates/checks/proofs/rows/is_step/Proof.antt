@@ -1,24 +1,46 @@
--- `checks::rows::is_step` meets its contract, by the contracts of its callees. Assumes nothing.
+-- `checks::rows::is_step` meets its contract: four comparisons, and whether the second row holds the first. Assumes nothing.
+use native.Mathlib.Omega.{arith}
+use Rattle.planning.proofs.TablePlan.{costs-rows}
+use Rattle.checks.proofs.RowLaws.{fails, held-decides}
 use borrow.Author.Needs.{needs}
 use Rattle.checks.proofs.rows.is_step.Statement.{statement}
 use Rattle.checks.proofs.rows.is_step.Tie as tie
 
-row-bounds-requires : tie.Need-row-bounds-requires
-row-bounds-requires c κs = search needs
+mul-is-step : tie.Need-mul-is-step
+mul-is-step c = search needs
 
-row-bounds-requires-2 : tie.Need-row-bounds-requires-2
-row-bounds-requires-2 c κs = search needs
+shared-slice-read-is-step : tie.Need-shared-slice-read-is-step
+shared-slice-read-is-step c = search needs
 
-holds-requires : tie.Need-holds-requires
-holds-requires c κs = search needs
+mul-is-step-2 : tie.Need-mul-is-step-2
+mul-is-step-2 c = search needs
 
-step-requires : tie.Need-step-requires
-step-requires c κs = search needs
+shared-slice-read-is-step-2 : tie.Need-shared-slice-read-is-step-2
+shared-slice-read-is-step-2 c = search needs
+
+is-step-requires : tie.Need-is-step-requires
+is-step-requires c κs = search needs
 
 returns : tie.Need-returns
-returns c = rw (← c .before .before .before .row-bounds .ensures, ← c .before .before .row-bounds2 .ensures, ← c .before .holds .ensures) (c .step .ensures)
+returns c = fails (c .before .before .before .before .before .before .before .pre .0) (c .before .before .before .before .before .before .before .pre .1) (c .before .before .before .before .before .before .before .pre .2) (c .before .before .before .before .before .before .before .pre .3) _ _ (c .before .is-step .ensures) (c .if1 .taken)
+
+row-holds-requires : tie.Need-row-holds-requires
+row-holds-requires c κs =
+    let rows = costs-rows _ _ _ _ (c .before .before .before .before .before .before .before .pre .0) in
+    (c .before .before .before .before .before .before .before .pre .1 .units-held, omega (arith, c .before .before .before .before .before .before .before .pre .2), omega (arith, c .before .before .before .before .before .before .before .pre .3))
+
+returns-2 : tie.Need-returns-2
+returns-2 c = held-decides (c .before .before .before .before .before .before .before .before .pre .0) (c .before .before .before .before .before .before .before .before .pre .1) (c .before .before .before .before .before .before .before .before .pre .2) (c .before .before .before .before .before .before .before .before .pre .3) _ _ (c .before .before .is-step .ensures) (c .before .if1 .left) (c .row-holds .ensures)
 
 pub is-step-spec : {M : Type 1} → statement M
 is-step-spec =
     tie.close
-    (tie.spec row-bounds-requires row-bounds-requires-2 holds-requires step-requires returns)
+    (tie.spec
+    mul-is-step
+    shared-slice-read-is-step
+    mul-is-step-2
+    shared-slice-read-is-step-2
+    is-step-requires
+    returns
+    row-holds-requires
+    returns-2)

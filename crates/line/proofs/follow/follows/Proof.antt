@@ -2,7 +2,7 @@
 use Prim.Native.Nat.{_-_}
 use native.Mathlib.Omega.{arith}
 use borrow.Author.Needs.{needs}
-use Rattle.line.proofs.CheckLaws.{Passed, passed-start, passed-next, passed-all, falls, above, ahead, rises, refused}
+use Rattle.line.proofs.CheckLaws.{Passed, passed-start, passed-next, passed-all, falls, above, ahead, refused}
 use Rattle.line.proofs.follow.follows.Statement.{statement}
 use Rattle.line.proofs.follow.follows.Tie as tie
 
@@ -40,8 +40,7 @@ advance-requires c κs =
     ahead _ _ _ _ _ _ _ _ (c .before .before .before .before .before .before .before .before .before .before .before .before .before .before .pre) (c .before .before .before .before .before .before .before .loop .inv) (c .before .before .before .before .before .before .loop-test .taken) (c .before .before .before .before .before .entry-u16 .ensures) (c .before .before .before .before .entry-u32 .ensures) (c .before .before .if1 .left) (c .if2 .left)
 
 is-step-requires : tie.Need-is-step-requires Inv-loop μ-loop
-is-step-requires c κs =
-    rises _ _ _ _ _ _ _ _ (c .before .before .before .before .before .before .before .before .before .before .before .before .before .before .before .pre) (c .before .before .before .before .before .before .before .before .loop .inv) (c .before .before .before .before .before .before .before .loop-test .taken) (c .before .before .before .before .before .before .entry-u16 .ensures) (c .before .before .before .before .before .entry-u32 .ensures) (c .before .before .before .if1 .left) (c .before .if2 .left) (c .advance .ensures)
+is-step-requires c κs = tt
 
 returns-3 : tie.Need-returns-3 Inv-loop μ-loop
 returns-3 c =

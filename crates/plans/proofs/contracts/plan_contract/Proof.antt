@@ -1,4 +1,4 @@
-use Rattle.planning.proofs.FormArms.{ladder-is, ladder-valid, ladder-costs, ladder-values, prices-is, prices-valid, prices-units, prices-costs, prices-values, table-is, table-valid, table-units, table-costs, table-values}
+use Rattle.planning.proofs.FormArms.{prices-is, prices-valid, prices-units, prices-costs, prices-values, table-is, table-valid, table-units, table-costs, table-values}
 use borrow.Author.Needs.{needs}
 use Rattle.plans.proofs.contracts.plan_contract.Statement.{statement}
 use Rattle.plans.proofs.contracts.plan_contract.Tie as tie
@@ -8,27 +8,6 @@ cast-n c = search needs
 
 enum-told : tie.Need-enum-told
 enum-told c = search needs
-
-sub-plan-ladder : tie.Need-sub-plan-ladder
-sub-plan-ladder c = search needs
-
-part-plan-ladder-start : tie.Need-part-plan-ladder-start
-part-plan-ladder-start c = search needs
-
-part-plan-ladder-end : tie.Need-part-plan-ladder-end
-part-plan-ladder-end c = ladder-costs _ _ _ (c .before .before .before .before .before .before .before .before .before .before .pre) (c .enum-told .given .1)
-
-sub-plan-ladder-2 : tie.Need-sub-plan-ladder-2
-sub-plan-ladder-2 c = search needs
-
-part-plan-ladder-start-2 : tie.Need-part-plan-ladder-start-2
-part-plan-ladder-start-2 c = search needs
-
-part-plan-ladder-end-2 : tie.Need-part-plan-ladder-end-2
-part-plan-ladder-end-2 c = ladder-values _ _ _ (c .before .before .before .before .before .before .before .before .before .before .before .pre) (c .before .enum-told .given .1)
-
-plan-ladder-requires : tie.Need-plan-ladder-requires
-plan-ladder-requires c κs = ladder-valid _ _ _ (c .before .before .before .before .before .before .before .before .before .before .before .before .before .before .before .before .pre) (c .before .before .before .before .before .before .enum-told .given .1)
 
 enum-told-2 : tie.Need-enum-told-2
 enum-told-2 c = search needs
@@ -40,7 +19,7 @@ part-plan-prices-start : tie.Need-part-plan-prices-start
 part-plan-prices-start c = search needs
 
 part-plan-prices-end : tie.Need-part-plan-prices-end
-part-plan-prices-end c = prices-units _ _ _ (c .before .before .before .before .before .before .before .before .before .before .before .pre) (c .before .enum-told2 .given .1)
+part-plan-prices-end c = prices-units _ _ _ ((c .before .before .before .before .before .before .before .before .before .before .before .pre .0)) (c .before .enum-told2 .given .1)
 
 sub-plan-prices-2 : tie.Need-sub-plan-prices-2
 sub-plan-prices-2 c = search needs
@@ -49,7 +28,7 @@ part-plan-prices-start-2 : tie.Need-part-plan-prices-start-2
 part-plan-prices-start-2 c = search needs
 
 part-plan-prices-end-2 : tie.Need-part-plan-prices-end-2
-part-plan-prices-end-2 c = prices-costs _ _ _ (c .before .before .before .before .before .before .before .before .before .before .before .before .pre) (c .before .before .enum-told2 .given .1)
+part-plan-prices-end-2 c = prices-costs _ _ _ ((c .before .before .before .before .before .before .before .before .before .before .before .before .pre .0)) (c .before .before .enum-told2 .given .1)
 
 sub-plan-prices-3 : tie.Need-sub-plan-prices-3
 sub-plan-prices-3 c = search needs
@@ -58,10 +37,10 @@ part-plan-prices-start-3 : tie.Need-part-plan-prices-start-3
 part-plan-prices-start-3 c = search needs
 
 part-plan-prices-end-3 : tie.Need-part-plan-prices-end-3
-part-plan-prices-end-3 c = prices-values _ _ _ (c .before .before .before .before .before .before .before .before .before .before .before .before .before .pre) (c .before .before .before .enum-told2 .given .1)
+part-plan-prices-end-3 c = prices-values _ _ _ ((c .before .before .before .before .before .before .before .before .before .before .before .before .before .pre .0)) (c .before .before .before .enum-told2 .given .1)
 
 plan-prices-requires : tie.Need-plan-prices-requires
-plan-prices-requires c κs = prices-valid _ _ _ (c .before .before .before .before .before .before .before .before .before .before .before .before .before .before .before .before .before .before .pre) (c .before .before .before .before .before .before .before .before .enum-told2 .given .1)
+plan-prices-requires c κs = prices-valid _ _ _ ((c .before .before .before .before .before .before .before .before .before .before .before .before .before .before .before .before .before .before .pre .0)) (c .before .before .before .before .before .before .before .before .enum-told2 .given .1)
 
 enum-told-3 : tie.Need-enum-told-3
 enum-told-3 c = search needs
@@ -73,7 +52,7 @@ part-row-count-start : tie.Need-part-row-count-start
 part-row-count-start c = search needs
 
 part-row-count-end : tie.Need-part-row-count-end
-part-row-count-end c = table-units _ _ _ (c .before .before .before .before .before .before .before .before .before .before .before .pre) (c .before .enum-told3 .given .1)
+part-row-count-end c = table-units _ _ _ ((c .before .before .before .before .before .before .before .before .before .before .before .pre .0)) (c .before .enum-told3 .given .1)
 
 row-count-requires : tie.Need-row-count-requires
 row-count-requires c κs = search needs
@@ -85,7 +64,7 @@ part-plan-table-start : tie.Need-part-plan-table-start
 part-plan-table-start c = search needs
 
 part-plan-table-end : tie.Need-part-plan-table-end
-part-plan-table-end c = table-units _ _ _ (c .before .before .before .before .before .before .before .before .before .before .before .before .before .before .pre) (c .before .before .before .before .enum-told3 .given .1)
+part-plan-table-end c = table-units _ _ _ ((c .before .before .before .before .before .before .before .before .before .before .before .before .before .before .pre .0)) (c .before .before .before .before .enum-told3 .given .1)
 
 sub-plan-table-2 : tie.Need-sub-plan-table-2
 sub-plan-table-2 c = search needs
@@ -94,7 +73,7 @@ part-plan-table-start-2 : tie.Need-part-plan-table-start-2
 part-plan-table-start-2 c = search needs
 
 part-plan-table-end-2 : tie.Need-part-plan-table-end-2
-part-plan-table-end-2 c = table-costs _ _ _ (c .before .before .before .before .before .before .before .before .before .before .before .before .before .before .before .pre) (c .before .before .before .before .before .enum-told3 .given .1) (c .before .before .row-count .ensures)
+part-plan-table-end-2 c = table-costs _ _ _ ((c .before .before .before .before .before .before .before .before .before .before .before .before .before .before .before .pre .0)) (c .before .before .before .before .before .enum-told3 .given .1) (c .before .before .row-count .ensures)
 
 sub-plan-table-3 : tie.Need-sub-plan-table-3
 sub-plan-table-3 c = search needs
@@ -103,55 +82,43 @@ part-plan-table-start-3 : tie.Need-part-plan-table-start-3
 part-plan-table-start-3 c = search needs
 
 part-plan-table-end-3 : tie.Need-part-plan-table-end-3
-part-plan-table-end-3 c = table-values _ _ _ (c .before .before .before .before .before .before .before .before .before .before .before .before .before .before .before .before .pre) (c .before .before .before .before .before .before .enum-told3 .given .1) (c .before .before .before .row-count .ensures)
+part-plan-table-end-3 c = table-values _ _ _ ((c .before .before .before .before .before .before .before .before .before .before .before .before .before .before .before .before .pre .0)) (c .before .before .before .before .before .before .enum-told3 .given .1) (c .before .before .before .row-count .ensures)
 
 plan-table-requires : tie.Need-plan-table-requires
-plan-table-requires c κs = table-valid _ _ _ (c .before .before .before .before .before .before .before .before .before .before .before .before .before .before .before .before .before .before .before .before .before .pre) (c .before .before .before .before .before .before .before .before .before .before .before .enum-told3 .given .1) (c .before .before .before .before .before .before .before .before .row-count .ensures)
-
-same-length : tie.Need-same-length
-same-length c = c .before .before .before .before .before .before .before .before .plan-ladder .kept .1 .1 .1 .0
-
-same-length-2 : tie.Need-same-length-2
-same-length-2 c = c .before .before .before .before .before .before .before .before .plan-ladder .kept .1 .1 .1 .1 .0
-
-same-length-3 : tie.Need-same-length-3
-same-length-3 c = c .before .before .before .before .before .before .before .before .plan-ladder .kept .1 .1 .1 .1 .1 .0
-
-same-length-4 : tie.Need-same-length-4
-same-length-4 c = c .before .before .before .before .before .before .before .before .plan-ladder .kept .1 .1 .1 .1 .1 .1 .0
+plan-table-requires c κs = table-valid _ _ _ ((c .before .before .before .before .before .before .before .before .before .before .before .before .before .before .before .before .before .before .before .before .before .pre .0)) (c .before .before .before .before .before .before .before .before .before .before .before .enum-told3 .given .1) (c .before .before .before .before .before .before .before .before .row-count .ensures)
 
 returns : tie.Need-returns
-returns c = rw (ladder-is _ _ _ (c .before .before .before .before .before .before .before .before .before .before .before .before .before .before .before .before .before .before .before .before .before .before .before .before .before .pre) (c .before .before .before .before .before .before .before .before .before .before .before .before .before .before .before .enum-told .given .1)) (c .before .before .before .before .before .before .before .before .plan-ladder .ensures)
+returns c = absurd (c .before .before .before .before .before .before .before .before .before .before .pre .1 (c .enum-told .given .1))
 
-same-length-5 : tie.Need-same-length-5
-same-length-5 c = c .before .before .before .before .before .before .before .before .plan-prices .kept .1 .1 .1 .1 .0
+same-length : tie.Need-same-length
+same-length c = search needs
 
-same-length-6 : tie.Need-same-length-6
-same-length-6 c = c .before .before .before .before .before .before .before .before .plan-prices .kept .1 .1 .1 .1 .1 .0
+same-length-2 : tie.Need-same-length-2
+same-length-2 c = search needs
 
-same-length-7 : tie.Need-same-length-7
-same-length-7 c = c .before .before .before .before .before .before .before .before .plan-prices .kept .1 .1 .1 .1 .1 .1 .0
+same-length-3 : tie.Need-same-length-3
+same-length-3 c = search needs
 
-same-length-8 : tie.Need-same-length-8
-same-length-8 c = c .before .before .before .before .before .before .before .before .plan-prices .kept .1 .1 .1 .1 .1 .1 .1 .0
+same-length-4 : tie.Need-same-length-4
+same-length-4 c = search needs
 
 returns-2 : tie.Need-returns-2
-returns-2 c = rw (prices-is _ _ _ (c .before .before .before .before .before .before .before .before .before .before .before .before .before .before .before .before .before .before .before .before .before .before .before .before .before .before .before .pre) (c .before .before .before .before .before .before .before .before .before .before .before .before .before .before .before .before .before .enum-told2 .given .1)) (c .before .before .before .before .before .before .before .before .plan-prices .ensures)
+returns-2 c = rw (prices-is _ _ _ ((c .before .before .before .before .before .before .before .before .before .before .before .before .before .before .before .before .before .before .before .before .before .before .before .before .before .before .before .pre .0)) (c .before .before .before .before .before .before .before .before .before .before .before .before .before .before .before .before .before .enum-told2 .given .1)) (c .before .before .before .before .before .before .before .before .plan-prices .ensures)
 
-same-length-9 : tie.Need-same-length-9
-same-length-9 c = c .before .before .before .before .before .before .before .before .plan-table .kept .1 .1 .1 .1 .0
+same-length-5 : tie.Need-same-length-5
+same-length-5 c = search needs
 
-same-length-10 : tie.Need-same-length-10
-same-length-10 c = c .before .before .before .before .before .before .before .before .plan-table .kept .1 .1 .1 .1 .1 .0
+same-length-6 : tie.Need-same-length-6
+same-length-6 c = search needs
 
-same-length-11 : tie.Need-same-length-11
-same-length-11 c = c .before .before .before .before .before .before .before .before .plan-table .kept .1 .1 .1 .1 .1 .1 .0
+same-length-7 : tie.Need-same-length-7
+same-length-7 c = search needs
 
-same-length-12 : tie.Need-same-length-12
-same-length-12 c = c .before .before .before .before .before .before .before .before .plan-table .kept .1 .1 .1 .1 .1 .1 .1 .0
+same-length-8 : tie.Need-same-length-8
+same-length-8 c = search needs
 
 returns-3 : tie.Need-returns-3
-returns-3 c = rw (table-is _ _ _ (c .before .before .before .before .before .before .before .before .before .before .before .before .before .before .before .before .before .before .before .before .before .before .before .before .before .before .before .before .before .before .pre) (c .before .before .before .before .before .before .before .before .before .before .before .before .before .before .before .before .before .before .before .before .enum-told3 .given .1) (c .before .before .before .before .before .before .before .before .before .before .before .before .before .before .before .before .before .row-count .ensures)) (c .before .before .before .before .before .before .before .before .plan-table .ensures)
+returns-3 c = rw (table-is _ _ _ ((c .before .before .before .before .before .before .before .before .before .before .before .before .before .before .before .before .before .before .before .before .before .before .before .before .before .before .before .before .before .before .pre .0)) (c .before .before .before .before .before .before .before .before .before .before .before .before .before .before .before .before .before .before .before .before .enum-told3 .given .1) (c .before .before .before .before .before .before .before .before .before .before .before .before .before .before .before .before .before .row-count .ensures)) (c .before .before .before .before .before .before .before .before .plan-table .ensures)
 
 pub plan-contract-spec : {M : Type 1} → statement M
 plan-contract-spec =
@@ -159,13 +126,6 @@ plan-contract-spec =
     (tie.spec
     cast-n
     enum-told
-    sub-plan-ladder
-    part-plan-ladder-start
-    part-plan-ladder-end
-    sub-plan-ladder-2
-    part-plan-ladder-start-2
-    part-plan-ladder-end-2
-    plan-ladder-requires
     enum-told-2
     sub-plan-prices
     part-plan-prices-start
@@ -192,18 +152,14 @@ plan-contract-spec =
     part-plan-table-start-3
     part-plan-table-end-3
     plan-table-requires
+    returns
     same-length
     same-length-2
     same-length-3
     same-length-4
-    returns
+    returns-2
     same-length-5
     same-length-6
     same-length-7
     same-length-8
-    returns-2
-    same-length-9
-    same-length-10
-    same-length-11
-    same-length-12
     returns-3)

@@ -55,7 +55,7 @@ returns-4 c =
     let m = rw (c .before .before .before .d .given .1) at (c .before .before .before .before .before .validate .ensures .reached) in
     record {
       meets = simp (count-ranged (c .before .before .before .before .before .before .before .before .before .before .before .args .priced) (now (c .before .before .before .before .before .before .before .before .before .before .before .args .s)) (c .before .before .before .before .before .before .before .before .before .before .before .args .at) ∙ asked viewField (c .before .before .before .before .before .before .before .before .before .segment-count .ensures .meets) (c .before .before .before .before .before .before .before .n .given .1), asked viewStep (c .before .before .before .before .before .validate .ensures .meets) (c .before .before .before .d .given .1), eq-eqb _ _ (c .if1 .left));
-      inside = (omega arith, rw (c .before .before .before .before .before .before .before .n .given .1) at (c .before .before .before .before .before .before .before .before .before .segment-count .ensures .bound));
+      inside = record { ends = omega arith; few = rw (c .before .before .before .before .before .before .before .n .given .1) at (c .before .before .before .before .before .before .before .before .before .segment-count .ensures .bound); cost = m .1 .1 .cost; value = m .1 .1 .value };
     }
 
 pub find-segments-spec : {M : Type 1} → statement M

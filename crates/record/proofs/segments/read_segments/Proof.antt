@@ -40,17 +40,17 @@ returns-2 c = refuses _ _ Short (said-found _ _ _ _ _ _ (asked viewRun (c .befor
 fill-segments-requires : tie.Need-fill-segments-requires
 fill-segments-requires c κs =
     let m = rw (c .before .before .before .before .before .p .given .1) at (c .before .before .before .before .before .before .before .find-segments .ensures .inside) in
-    (m .0, (c .before .before .before .if1 .left, c .before .before .if2 .left))
+    (m .ends, (c .before .before .before .if1 .left, c .before .before .if2 .left))
 
 segment-units-requires : tie.Need-segment-units-requires
 segment-units-requires c κs =
     let m = rw (c .before .before .before .before .before .before .before .before .before .before .p .given .1) at (c .before .before .before .before .before .before .before .before .before .before .before .before .find-segments .ensures .inside) in
-    (spaced-units (c .before .before .before .before .before .before .before .before .before .before .before .before .before .before .before .before .args .priced) _ _ _ (m .0), m .1)
+    (spaced-units (c .before .before .before .before .before .before .before .before .before .before .before .before .before .before .before .before .args .priced) _ _ _ (m .ends), m .few)
 
 accept-requires : tie.Need-accept-requires
 accept-requires c κs =
     let m = rw (c .before .before .before .before .before .before .before .before .before .before .before .p .given .1) at (c .before .before .before .before .before .before .before .before .before .before .before .before .before .find-segments .ensures .inside) in
-    (c .before .before .before .before .before .before .before .before .before .before .before .before .before .before .before .before .before .pre .small, few-segments (c .before .before .before .before .before .before .before .before .before .before .before .before .before .before .before .before .before .args .priced) _ (m .1))
+    (c .before .before .before .before .before .before .before .before .before .before .before .before .before .before .before .before .before .pre .small, few-segments (c .before .before .before .before .before .before .before .before .before .before .before .before .before .before .before .before .before .args .priced) _ (m .few))
 
 returns-3 : tie.Need-returns-3
 returns-3 c = refuses _ _ _ (said-stopped _ _ _ _ _ (asked viewRun (c .before .before .before .before .find-segments .ensures .meets) (c .before .before .e .given .1))) (c .refuse .ensures)

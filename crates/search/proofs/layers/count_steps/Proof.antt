@@ -6,21 +6,22 @@ use denote.Ref.{now}
 use lib.ListN.{length}
 use Rattle.search.specs.Layers.{working}
 use Rattle.search.proofs.LimitLaws.{priced}
-use Rattle.search.proofs.CountLaws.{Counting, all-rows, can-step, table-agrees, counting-start, counting-found, counting-settled, counting-next, counting-none, layer-room, most-room}
+use Rattle.search.proofs.TakeLaws.{listed-few}
+use Rattle.search.proofs.CountLaws.{Counting, all-rows, can-step, table-given, counting-start, counting-found, counting-settled, counting-next, counting-none, layer-room, most-room}
 use Rattle.search.proofs.layers.count_steps.Statement.{statement}
 use Rattle.search.proofs.layers.count_steps.Tie as tie
 
 abbrev Inv-loop : tie.InvT-loop
-Inv-loop t units costs values most work₀ held caps floors sums₀ front₀ at₀ j₀ work sums front at j = (j ≤ most) × (length work ≡ length work₀) × Counting (working t units costs values) (t .rows) work sums (front .named) (front .changed) (front .count) at j
+Inv-loop t units held costs values most work₀ caps tops floors sums₀ last named₀ changed₀ n₀ at₀ j₀ work sums named changed n at j = (j ≤ most) × (length work ≡ length work₀) × Counting (working t units costs values) (t .rows) work sums named changed n at j
 
 abbrev μ-loop : tie.MeasureT-loop
-μ-loop t units costs values most work₀ held caps floors sums₀ front₀ at₀ j₀ work sums front at j = most - j
-
-all-units-requires : tie.Need-all-units-requires Inv-loop μ-loop
-all-units-requires c κs = search needs
+μ-loop t units held costs values most work₀ caps tops floors sums₀ last named₀ changed₀ n₀ at₀ j₀ work sums named changed n at j = most - j
 
 all-caps-requires : tie.Need-all-caps-requires Inv-loop μ-loop
 all-caps-requires c κs = search needs
+
+all-tops-requires : tie.Need-all-tops-requires Inv-loop μ-loop
+all-tops-requires c κs = search needs
 
 all-floors-requires : tie.Need-all-floors-requires Inv-loop μ-loop
 all-floors-requires c κs = search needs
@@ -28,73 +29,82 @@ all-floors-requires c κs = search needs
 first-sums-requires : tie.Need-first-sums-requires Inv-loop μ-loop
 first-sums-requires c κs = search needs
 
-first-frontier-requires : tie.Need-first-frontier-requires Inv-loop μ-loop
-first-frontier-requires c κs = search needs
+sub-last : tie.Need-sub-last Inv-loop μ-loop
+sub-last c = search needs
+
+one-row-requires : tie.Need-one-row-requires Inv-loop μ-loop
+one-row-requires c κs = search needs
+
+one-row-requires-2 : tie.Need-one-row-requires-2 Inv-loop μ-loop
+one-row-requires-2 c κs = search needs
 
 loop-holds : tie.Need-loop-holds Inv-loop μ-loop
 loop-holds c =
-    let x = c .before .before .before .before .before .before .before .before .before .args in
-    (omega arith, refl, rw (c .before .first-sums .ensures, c .first-frontier .ensures .0, c .first-frontier .ensures .1, c .first-frontier .ensures .2) (counting-start (working (x .t) (now (x .units)) (now (x .costs)) (now (x .values))) (x .t .rows) (all-rows (x .t) (now (x .units)) (c .before .before .before .before .before .before .before .before .before .pre .0)) (c .before .before .before .before .before .before .before .before .before .pre .0 .some) (c .before .before .before .before .before .before .before .before .before .pre .0 .few) (priced (x .t) (now (x .units)) (now (x .costs)) (now (x .values)) (omega (arith, c .before .before .before .before .before .before .before .before .before .good))) (now (x .work))))
+    let x = c .before .before .before .before .before .before .before .before .before .before .before .before .args in
+    let g = table-given (x .t) (now (x .units)) (now (x .costs)) (now (x .values)) (c .before .before .before .before .before .before .before .all-caps .result) (c .before .before .before .before .all-floors .result) (c .before .before .before .before .before .before .before .before .before .before .before .before .pre .0) (c .before .before .before .before .before .before .before .all-caps .ensures) (c .before .before .before .before .all-floors .ensures) in
+    let p = priced (x .t) (now (x .units)) (now (x .costs)) (now (x .values)) (omega (arith, c .before .before .before .before .before .before .before .before .before .before .before .before .good)) in
+    (omega arith, refl, rw (c .before .before .before .first-sums .ensures, c .before .one-row .ensures, c .one-row2 .ensures) (counting-start g p (now (x .work))))
 
-step-requires : tie.Need-step-requires Inv-loop μ-loop
-step-requires c κs =
-    let x = c .before .before .before .before .before .before .before .before .before .before .before .before .before .before .before .args in
-    let l = c .before .before .before .before .before .loop in
-    can-step (x .t) (now (x .units)) (now (x .costs)) (now (x .values)) (c .before .before .before .before .before .before .before .before .before .before .before .before .before .before .before .pre .0) (c .before .before .before .before .before .before .before .before .before .before .all-units .ensures) (l .inv .2)
+arrives-requires : tie.Need-arrives-requires Inv-loop μ-loop
+arrives-requires c κs =
+    let x = c .before .before .before .before .before .before .before .before .before .before .before .before .before .before .before .before .before .before .args in
+    listed-few (c .before .before .before .before .before .loop .inv .2 .searched .listed) (omega (arith, all-rows (x .t) (now (x .units)) (c .before .before .before .before .before .before .before .before .before .before .before .before .before .before .before .before .before .before .pre .0), c .before .before .before .before .before .before .before .before .before .before .before .before .before .before .before .before .before .before .pre .0 .few))
 
-note-requires : tie.Need-note-requires Inv-loop μ-loop
-note-requires c κs = (c .before .before .before .before .before .before .before .before .before .before .before .before .before .before .before .before .before .before .before .pre .0 .few, rw (c .before .before .before .before .before .before .before .before .before .loop .inv .1) (layer-room _ _ _ (c .before .before .before .before .before .before .before .before .before .before .before .before .before .before .before .before .before .before .before .args .most) _ (c .before .before .before .before .before .before .before .before .before .loop .inv .2 .placed) (c .before .before .before .before .before .before .before .before .loop-test .taken) (c .before .before .before .before .before .before .before .before .before .before .before .before .before .before .before .before .before .before .before .pre .1)))
-
-add-j : tie.Need-add-j Inv-loop μ-loop
-add-j c = omega (arith, c .before .before .before .before .before .before .before .before .before .before .before .loop-test .taken, most-room (c .before .before .before .before .before .before .before .before .before .before .before .before .before .before .before .before .before .before .before .before .before .before .args .t .rows) (c .before .before .before .before .before .before .before .before .before .before .before .before .before .before .before .before .before .before .before .before .before .before .args .most) (length (now (c .before .before .before .before .before .before .before .before .before .before .before .before .before .before .before .before .before .before .before .before .before .before .args .work))) (c .before .before .before .before .before .before .before .before .before .before .before .before .before .before .before .before .before .before .before .before .before .before .pre .0 .some) (c .before .before .before .before .before .before .before .before .before .before .before .before .before .before .before .before .before .before .before .before .before .before .pre .1), c .before .before .before .before .before .before .before .before .before .before .before .before .before .before .before .before .before .before .before .before .before .before .good)
-
-array-read-if1 : tie.Need-array-read-if1 Inv-loop μ-loop
-array-read-if1 c = omega (arith, c .before .before .before .before .before .before .step .ensures .over .sums-long)
+add-result : tie.Need-add-result Inv-loop μ-loop
+add-result c = omega (arith, c .before .before .before .before .before .before .loop-test .taken, most-room (c .before .before .before .before .before .before .before .before .before .before .before .before .before .before .before .before .before .before .before .before .args .t .rows) (c .before .before .before .before .before .before .before .before .before .before .before .before .before .before .before .before .before .before .before .before .args .most) (length (now (c .before .before .before .before .before .before .before .before .before .before .before .before .before .before .before .before .before .before .before .before .args .work))) (c .before .before .before .before .before .before .before .before .before .before .before .before .before .before .before .before .before .before .before .before .pre .0 .some) (c .before .before .before .before .before .before .before .before .before .before .before .before .before .before .before .before .before .before .before .before .pre .2), c .before .before .before .before .before .before .before .before .before .before .before .before .before .before .before .before .before .before .before .before .good)
 
 same-length : tie.Need-same-length Inv-loop μ-loop
-same-length c = c .before .before .before .note .kept .1 .1 .0 ∙ c .before .before .before .before .before .before .before .before .before .before .before .before .before .loop .inv .1
+same-length c = c .before .before .before .before .before .before .before .loop .inv .1
 
 returns : tie.Need-returns Inv-loop μ-loop
 returns c =
-    let x = c .before .before .before .before .before .before .before .before .before .before .before .before .before .before .before .before .before .before .before .before .before .before .before .args in
-    let l = c .before .before .before .before .before .before .before .before .before .before .before .before .before .loop in
-    counting-found (working (x .t) (now (x .units)) (now (x .costs)) (now (x .values))) (x .t .rows) (all-rows (x .t) (now (x .units)) (c .before .before .before .before .before .before .before .before .before .before .before .before .before .before .before .before .before .before .before .before .before .before .before .pre .0)) (c .before .before .before .before .before .before .before .before .before .before .before .before .before .before .before .before .before .before .before .before .before .before .before .pre .0 .some) (c .before .before .before .before .before .before .before .before .before .before .before .before .before .before .before .before .before .before .before .before .before .before .before .pre .0 .few) (table-agrees (x .t) (now (x .units)) (now (x .costs)) (now (x .values)) (c .before .before .before .before .before .before .before .before .before .before .before .before .before .before .before .before .before .all-caps .result) (c .before .before .before .before .before .before .before .before .before .before .before .before .before .before .before .before .all-floors .result) (c .before .before .before .before .before .before .before .before .before .before .before .before .before .before .before .before .before .before .before .before .before .before .before .pre .0) (c .before .before .before .before .before .before .before .before .before .before .before .before .before .before .before .before .before .all-caps .ensures) (c .before .before .before .before .before .before .before .before .before .before .before .before .before .before .before .before .all-floors .ensures)) (l .inv .2) (c .before .before .before .before .before .before .before .step .ensures) (c .before .before .before .note .ensures) (x .most) (c .if1 .taken) (c .before .before .before .before .before .before .before .before .before .before .before .before .loop-test .taken)
+    let x = c .before .before .before .before .before .before .before .before .before .before .before .before .before .before .before .before .before .before .before .before .args in
+    let g = table-given (x .t) (now (x .units)) (now (x .costs)) (now (x .values)) (c .before .before .before .before .before .before .before .before .before .before .before .before .before .before .before .all-caps .result) (c .before .before .before .before .before .before .before .before .before .before .before .before .all-floors .result) (c .before .before .before .before .before .before .before .before .before .before .before .before .before .before .before .before .before .before .before .before .pre .0) (c .before .before .before .before .before .before .before .before .before .before .before .before .before .before .before .all-caps .ensures) (c .before .before .before .before .before .before .before .before .before .before .before .before .all-floors .ensures) in
+    counting-found g (c .before .before .before .before .before .before .before .loop .inv .2) (x .most) (c .before .arrives .ensures .found (c .if1 .taken)) (c .before .before .before .before .before .before .loop-test .taken)
 
-add-result : tie.Need-add-result Inv-loop μ-loop
-add-result c = omega (arith, most-room (c .before .before .before .before .before .before .before .before .before .before .before .before .before .before .before .before .before .before .before .before .before .before .before .before .before .args .t .rows) (c .before .before .before .before .before .before .before .before .before .before .before .before .before .before .before .before .before .before .before .before .before .before .before .before .before .args .most) (length (now (c .before .before .before .before .before .before .before .before .before .before .before .before .before .before .before .before .before .before .before .before .before .before .before .before .before .args .work))) (c .before .before .before .before .before .before .before .before .before .before .before .before .before .before .before .before .before .before .before .before .before .before .before .before .before .pre .0 .some) (c .before .before .before .before .before .before .before .before .before .before .before .before .before .before .before .before .before .before .before .before .before .before .before .before .before .pre .1), c .before .before .before .before .before .before .before .before .before .before .before .before .before .before .before .before .before .before .before .before .before .before .before .before .before .good)
+step-requires : tie.Need-step-requires Inv-loop μ-loop
+step-requires c κs =
+    let x = c .before .before .before .before .before .before .before .before .before .before .before .before .before .before .before .before .before .before .before .before .before .before .before .before .before .before .args in
+    can-step (x .t) (now (x .units)) (now (x .costs)) (now (x .values)) (c .before .before .before .before .before .before .before .before .before .before .before .before .before .before .before .before .before .before .before .before .before .before .before .before .before .before .pre .0) (c .before .before .before .before .before .before .before .before .before .before .before .before .before .before .before .before .before .before .before .before .before .before .before .before .before .before .pre .1) (c .before .before .before .before .before .before .before .before .before .before .before .before .before .before .before .before .before .before .before .all-tops .ensures) (c .before .before .before .before .before .before .before .before .before .before .before .before .before .loop .inv .2)
+
+note-requires : tie.Need-note-requires Inv-loop μ-loop
+note-requires c κs = (c .before .before .before .before .before .before .before .before .before .before .before .before .before .before .before .before .before .before .before .before .before .before .before .before .before .before .before .before .before .pre .0 .few, rw (c .before .before .before .before .before .before .before .before .before .before .before .before .before .before .before .before .loop .inv .1) (layer-room _ _ _ (c .before .before .before .before .before .before .before .before .before .before .before .before .before .before .before .before .before .before .before .before .before .before .before .before .before .before .before .before .before .args .most) _ (c .before .before .before .before .before .before .before .before .before .before .before .before .before .before .before .before .loop .inv .2 .placed) (c .before .before .before .before .before .before .before .before .before .before .before .before .before .before .before .loop-test .taken) (c .before .before .before .before .before .before .before .before .before .before .before .before .before .before .before .before .before .before .before .before .before .before .before .before .before .before .before .before .before .pre .2)))
+
+add-result-2 : tie.Need-add-result-2 Inv-loop μ-loop
+add-result-2 c = omega (arith, most-room (c .before .before .before .before .before .before .before .before .before .before .before .before .before .before .before .before .before .before .before .before .before .before .before .before .before .before .before .before .before .before .before .before .before .args .t .rows) (c .before .before .before .before .before .before .before .before .before .before .before .before .before .before .before .before .before .before .before .before .before .before .before .before .before .before .before .before .before .before .before .before .before .args .most) (length (now (c .before .before .before .before .before .before .before .before .before .before .before .before .before .before .before .before .before .before .before .before .before .before .before .before .before .before .before .before .before .before .before .before .before .args .work))) (c .before .before .before .before .before .before .before .before .before .before .before .before .before .before .before .before .before .before .before .before .before .before .before .before .before .before .before .before .before .before .before .before .before .pre .0 .some) (c .before .before .before .before .before .before .before .before .before .before .before .before .before .before .before .before .before .before .before .before .before .before .before .before .before .before .before .before .before .before .before .before .before .pre .2), c .before .before .before .before .before .before .before .before .before .before .before .before .before .before .before .before .before .before .before .before .before .before .before .before .before .before .before .before .before .before .before .before .before .good)
 
 same-length-2 : tie.Need-same-length-2 Inv-loop μ-loop
-same-length-2 c = c .before .before .before .before .before .note .kept .1 .1 .0 ∙ c .before .before .before .before .before .before .before .before .before .before .before .before .before .before .before .loop .inv .1
+same-length-2 c = c .before .before .before .note .kept .1 .1 .0 ∙ c .before .before .before .before .before .before .before .before .before .before .before .before .before .before .before .before .before .before .before .before .loop .inv .1
 
 returns-2 : tie.Need-returns-2 Inv-loop μ-loop
 returns-2 c =
-    let x = c .before .before .before .before .before .before .before .before .before .before .before .before .before .before .before .before .before .before .before .before .before .before .before .before .before .args in
-    let l = c .before .before .before .before .before .before .before .before .before .before .before .before .before .before .before .loop in
-    counting-settled (working (x .t) (now (x .units)) (now (x .costs)) (now (x .values))) (x .t .rows) (all-rows (x .t) (now (x .units)) (c .before .before .before .before .before .before .before .before .before .before .before .before .before .before .before .before .before .before .before .before .before .before .before .before .before .pre .0)) (c .before .before .before .before .before .before .before .before .before .before .before .before .before .before .before .before .before .before .before .before .before .before .before .before .before .pre .0 .some) (c .before .before .before .before .before .before .before .before .before .before .before .before .before .before .before .before .before .before .before .before .before .before .before .before .before .pre .0 .few) (table-agrees (x .t) (now (x .units)) (now (x .costs)) (now (x .values)) (c .before .before .before .before .before .before .before .before .before .before .before .before .before .before .before .before .before .before .before .all-caps .result) (c .before .before .before .before .before .before .before .before .before .before .before .before .before .before .before .before .before .before .all-floors .result) (c .before .before .before .before .before .before .before .before .before .before .before .before .before .before .before .before .before .before .before .before .before .before .before .before .before .pre .0) (c .before .before .before .before .before .before .before .before .before .before .before .before .before .before .before .before .before .before .before .all-caps .ensures) (c .before .before .before .before .before .before .before .before .before .before .before .before .before .before .before .before .before .before .all-floors .ensures)) (l .inv .2) (c .before .before .before .before .before .before .before .before .before .step .ensures) (c .before .before .before .before .before .note .ensures) (x .most) (c .if2 .taken)
+    let x = c .before .before .before .before .before .before .before .before .before .before .before .before .before .before .before .before .before .before .before .before .before .before .before .before .before .before .before .before .before .before .before .before .before .args in
+    let g = table-given (x .t) (now (x .units)) (now (x .costs)) (now (x .values)) (c .before .before .before .before .before .before .before .before .before .before .before .before .before .before .before .before .before .before .before .before .before .before .before .before .before .before .before .before .all-caps .result) (c .before .before .before .before .before .before .before .before .before .before .before .before .before .before .before .before .before .before .before .before .before .before .before .before .before .all-floors .result) (c .before .before .before .before .before .before .before .before .before .before .before .before .before .before .before .before .before .before .before .before .before .before .before .before .before .before .before .before .before .before .before .before .before .pre .0) (c .before .before .before .before .before .before .before .before .before .before .before .before .before .before .before .before .before .before .before .before .before .before .before .before .before .before .before .before .all-caps .ensures) (c .before .before .before .before .before .before .before .before .before .before .before .before .before .before .before .before .before .before .before .before .before .before .before .before .before .all-floors .ensures) in
+    counting-settled g (c .before .before .before .before .before .before .before .before .before .before .before .before .before .before .before .before .before .before .before .before .loop .inv .2) (c .before .before .before .before .before .before .step .ensures) (c .before .before .before .note .ensures) (x .most) (c .if2 .taken)
+
+add-j : tie.Need-add-j Inv-loop μ-loop
+add-j c = omega (arith, c .before .before .before .before .before .before .before .before .before .before .before .before .before .before .before .before .before .before .before .loop-test .taken, most-room (c .before .before .before .before .before .before .before .before .before .before .before .before .before .before .before .before .before .before .before .before .before .before .before .before .before .before .before .before .before .before .before .before .before .args .t .rows) (c .before .before .before .before .before .before .before .before .before .before .before .before .before .before .before .before .before .before .before .before .before .before .before .before .before .before .before .before .before .before .before .before .before .args .most) (length (now (c .before .before .before .before .before .before .before .before .before .before .before .before .before .before .before .before .before .before .before .before .before .before .before .before .before .before .before .before .before .before .before .before .before .args .work))) (c .before .before .before .before .before .before .before .before .before .before .before .before .before .before .before .before .before .before .before .before .before .before .before .before .before .before .before .before .before .before .before .before .before .pre .0 .some) (c .before .before .before .before .before .before .before .before .before .before .before .before .before .before .before .before .before .before .before .before .before .before .before .before .before .before .before .before .before .before .before .before .before .pre .2), c .before .before .before .before .before .before .before .before .before .before .before .before .before .before .before .before .before .before .before .before .before .before .before .before .before .before .before .before .before .before .before .before .before .good)
 
 add-at : tie.Need-add-at Inv-loop μ-loop
-add-at c = omega (arith, layer-room _ _ _ (c .before .before .before .before .before .before .before .before .before .before .before .before .before .before .before .before .before .before .before .before .before .before .before .before .before .before .args .most) _ (c .before .before .before .before .before .before .before .before .before .before .before .before .before .before .before .before .loop .inv .2 .placed) (c .before .before .before .before .before .before .before .before .before .before .before .before .before .before .before .loop-test .taken) (c .before .before .before .before .before .before .before .before .before .before .before .before .before .before .before .before .before .before .before .before .before .before .before .before .before .before .pre .1), c .before .before .before .before .before .before .before .before .before .before .before .before .before .before .before .before .before .before .before .before .before .before .before .before .before .before .good)
+add-at c = omega (arith, layer-room _ _ _ (c .before .before .before .before .before .before .before .before .before .before .before .before .before .before .before .before .before .before .before .before .before .before .before .before .before .before .before .before .before .before .before .before .before .before .args .most) _ (c .before .before .before .before .before .before .before .before .before .before .before .before .before .before .before .before .before .before .before .before .before .loop .inv .2 .placed) (c .before .before .before .before .before .before .before .before .before .before .before .before .before .before .before .before .before .before .before .before .loop-test .taken) (c .before .before .before .before .before .before .before .before .before .before .before .before .before .before .before .before .before .before .before .before .before .before .before .before .before .before .before .before .before .before .before .before .before .before .pre .2), c .before .before .before .before .before .before .before .before .before .before .before .before .before .before .before .before .before .before .before .before .before .before .before .before .before .before .before .before .before .before .before .before .before .before .good)
 
 loop-less : tie.Need-loop-less Inv-loop μ-loop
-loop-less c = search needs
+loop-less c = omega (arith, c .before .before .before .before .before .before .before .before .before .before .before .before .before .before .before .before .before .before .before .before .loop-test .taken)
 
 loop-again : tie.Need-loop-again Inv-loop μ-loop
 loop-again c =
-    let x = c .before .before .before .before .before .before .before .before .before .before .before .before .before .before .before .before .before .before .before .before .before .before .before .before .before .before .args in
-    let l = c .before .before .before .before .before .before .before .before .before .before .before .before .before .before .before .before .loop in
-    (omega (arith, c .before .before .before .before .before .before .before .before .before .before .before .before .before .before .before .loop-test .taken), c .before .before .before .before .before .before .note .kept .1 .1 .0 ∙ l .inv .1, counting-next (working (x .t) (now (x .units)) (now (x .costs)) (now (x .values))) (x .t .rows) (all-rows (x .t) (now (x .units)) (c .before .before .before .before .before .before .before .before .before .before .before .before .before .before .before .before .before .before .before .before .before .before .before .before .before .before .pre .0)) (c .before .before .before .before .before .before .before .before .before .before .before .before .before .before .before .before .before .before .before .before .before .before .before .before .before .before .pre .0 .some) (c .before .before .before .before .before .before .before .before .before .before .before .before .before .before .before .before .before .before .before .before .before .before .before .before .before .before .pre .0 .few) (table-agrees (x .t) (now (x .units)) (now (x .costs)) (now (x .values)) (c .before .before .before .before .before .before .before .before .before .before .before .before .before .before .before .before .before .before .before .before .all-caps .result) (c .before .before .before .before .before .before .before .before .before .before .before .before .before .before .before .before .before .before .before .all-floors .result) (c .before .before .before .before .before .before .before .before .before .before .before .before .before .before .before .before .before .before .before .before .before .before .before .before .before .before .pre .0) (c .before .before .before .before .before .before .before .before .before .before .before .before .before .before .before .before .before .before .before .before .all-caps .ensures) (c .before .before .before .before .before .before .before .before .before .before .before .before .before .before .before .before .before .before .before .all-floors .ensures)) (l .inv .2) (c .before .before .before .before .before .before .before .before .before .before .step .ensures) (c .before .before .before .before .before .before .note .ensures) (c .before .before .before .if1 .left))
+    let x = c .before .before .before .before .before .before .before .before .before .before .before .before .before .before .before .before .before .before .before .before .before .before .before .before .before .before .before .before .before .before .before .before .before .before .args in
+    let g = table-given (x .t) (now (x .units)) (now (x .costs)) (now (x .values)) (c .before .before .before .before .before .before .before .before .before .before .before .before .before .before .before .before .before .before .before .before .before .before .before .before .before .before .before .before .before .all-caps .result) (c .before .before .before .before .before .before .before .before .before .before .before .before .before .before .before .before .before .before .before .before .before .before .before .before .before .before .all-floors .result) (c .before .before .before .before .before .before .before .before .before .before .before .before .before .before .before .before .before .before .before .before .before .before .before .before .before .before .before .before .before .before .before .before .before .before .pre .0) (c .before .before .before .before .before .before .before .before .before .before .before .before .before .before .before .before .before .before .before .before .before .before .before .before .before .before .before .before .before .all-caps .ensures) (c .before .before .before .before .before .before .before .before .before .before .before .before .before .before .before .before .before .before .before .before .before .before .before .before .before .before .all-floors .ensures) in
+    (omega (arith, c .before .before .before .before .before .before .before .before .before .before .before .before .before .before .before .before .before .before .before .before .loop-test .taken), c .before .before .before .before .note .kept .1 .1 .0 ∙ c .before .before .before .before .before .before .before .before .before .before .before .before .before .before .before .before .before .before .before .before .before .loop .inv .1, counting-next g (c .before .before .before .before .before .before .before .before .before .before .before .before .before .before .before .before .before .before .before .before .before .loop .inv .2) (c .before .before .before .before .before .before .before .step .ensures) (c .before .before .before .before .note .ensures) (c .before .before .before .before .before .before .before .before .before .before .before .before .before .before .before .arrives .ensures .none (c .before .before .before .before .before .before .before .before .before .before .before .before .before .before .if1 .left)))
 
-add-result-2 : tie.Need-add-result-2 Inv-loop μ-loop
-add-result-2 c = omega (arith, most-room (c .before .before .before .before .before .before .before .before .before .before .before .args .t .rows) (c .before .before .before .before .before .before .before .before .before .before .before .args .most) (length (now (c .before .before .before .before .before .before .before .before .before .before .before .args .work))) (c .before .before .before .before .before .before .before .before .before .before .before .pre .0 .some) (c .before .before .before .before .before .before .before .before .before .before .before .pre .1), c .before .before .before .before .before .before .before .before .before .before .before .good)
+add-result-3 : tie.Need-add-result-3 Inv-loop μ-loop
+add-result-3 c = omega (arith, most-room (c .before .before .before .before .before .before .before .before .before .before .before .before .before .before .args .t .rows) (c .before .before .before .before .before .before .before .before .before .before .before .before .before .before .args .most) (length (now (c .before .before .before .before .before .before .before .before .before .before .before .before .before .before .args .work))) (c .before .before .before .before .before .before .before .before .before .before .before .before .before .before .pre .0 .some) (c .before .before .before .before .before .before .before .before .before .before .before .before .before .before .pre .2), c .before .before .before .before .before .before .before .before .before .before .before .before .before .before .good)
 
 same-length-3 : tie.Need-same-length-3 Inv-loop μ-loop
 same-length-3 c = c .before .loop .inv .1
 
 returns-3 : tie.Need-returns-3 Inv-loop μ-loop
-returns-3 c =
-    let x = c .before .before .before .before .before .before .before .before .before .before .before .args in
-    let l = c .before .loop in
-    counting-none (working (x .t) (now (x .units)) (now (x .costs)) (now (x .values))) (x .t .rows) (all-rows (x .t) (now (x .units)) (c .before .before .before .before .before .before .before .before .before .before .before .pre .0)) (c .before .before .before .before .before .before .before .before .before .before .before .pre .0 .some) (c .before .before .before .before .before .before .before .before .before .before .before .pre .0 .few) (x .most) (l .inv .2) (c .loop-test .left)
+returns-3 c = counting-none (c .before .before .before .before .before .before .before .before .before .before .before .before .before .before .args .most) (c .before .loop .inv .2) (c .loop-test .left)
 
 pub count-steps-spec : {M : Type 1} → statement M
 count-steps-spec =
@@ -102,24 +112,27 @@ count-steps-spec =
     (tie.spec
     Inv-loop
     μ-loop
-    all-units-requires
     all-caps-requires
+    all-tops-requires
     all-floors-requires
     first-sums-requires
-    first-frontier-requires
+    sub-last
+    one-row-requires
+    one-row-requires-2
     loop-holds
-    step-requires
-    note-requires
-    add-j
-    array-read-if1
+    arrives-requires
+    add-result
     same-length
     returns
-    add-result
+    step-requires
+    note-requires
+    add-result-2
     same-length-2
     returns-2
+    add-j
     add-at
     loop-less
     loop-again
-    add-result-2
+    add-result-3
     same-length-3
     returns-3)

@@ -10,16 +10,16 @@ use Rattle.search.proofs.layers.offer_all.Statement.{statement}
 use Rattle.search.proofs.layers.offer_all.Tie as tie
 
 abbrev Inv-loop : tie.InvT-loop
-Inv-loop units held caps floors sums changed n next₀ named₀ list₀ count₀ i₀ next named list count i = (i ≤ n) × Offers (offered (layer units caps floors sums) changed i) (rowsOf units) next₀ named₀ next named × Listing next list count (rowsOf units)
+Inv-loop units held caps tops floors sums changed n next₀ named₀ list₀ count₀ i₀ next named list count i = (i ≤ n) × Offers (offered (layer units caps floors sums) changed i) (rowsOf units) next₀ named₀ next named × Listing next list count (rowsOf units)
 
 abbrev μ-loop : tie.MeasureT-loop
-μ-loop units held caps floors sums changed n next₀ named₀ list₀ count₀ i₀ next named list count i = n - i
+μ-loop units held caps tops floors sums changed n next₀ named₀ list₀ count₀ i₀ next named list count i = n - i
 
 loop-holds : tie.Need-loop-holds Inv-loop μ-loop
-loop-holds c = (omega arith, offers-none _ _ _ _ _ (c .before .pre .3 .next-long) (c .before .pre .2), c .before .pre .3)
+loop-holds c = (omega arith, offers-none _ _ _ _ _ (c .before .pre .4 .next-long) (c .before .pre .3), c .before .pre .4)
 
 element-copy-out-wide8 : tie.Need-element-copy-out-wide8 Inv-loop μ-loop
-element-copy-out-wide8 c = omega (arith, c .before .before .before .pre .1 .few, c .loop-test .taken)
+element-copy-out-wide8 c = omega (arith, c .before .before .before .pre .2 .few, c .loop-test .taken)
 
 wide8-requires : tie.Need-wide8-requires Inv-loop μ-loop
 wide8-requires c κs = search needs
@@ -27,11 +27,11 @@ wide8-requires c κs = search needs
 offer-requires : tie.Need-offer-requires Inv-loop μ-loop
 offer-requires c κs =
     let l = c .before .before .before .before .before .before .loop in
-    let h = c .before .before .before .before .before .before .before .before .pre .1 .in-rows (l .i) (c .before .before .before .before .before .loop-test .taken) in
-    (c .before .before .before .before .before .before .before .before .pre .0, rw (c .before .before .before .wide8 .ensures) h, l .inv .1 .named-long, l .inv .2)
+    let h = c .before .before .before .before .before .before .before .before .pre .2 .in-rows (l .i) (c .before .before .before .before .before .loop-test .taken) in
+    (c .before .before .before .before .before .before .before .before .pre .0, c .before .before .before .before .before .before .before .before .pre .1, rw (c .before .before .before .wide8 .ensures) h, l .inv .1 .named-long, l .inv .2)
 
 add-i : tie.Need-add-i Inv-loop μ-loop
-add-i c = omega (arith, c .before .before .before .before .before .before .before .before .before .pre .1 .few, c .before .before .before .before .before .before .loop-test .taken)
+add-i c = omega (arith, c .before .before .before .before .before .before .before .before .before .pre .2 .few, c .before .before .before .before .before .before .loop-test .taken)
 
 loop-less : tie.Need-loop-less Inv-loop μ-loop
 loop-less c = omega (arith, c .before .before .before .before .before .before .loop-test .taken)

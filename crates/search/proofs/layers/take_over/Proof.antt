@@ -9,16 +9,16 @@ use Rattle.search.proofs.layers.take_over.Statement.{statement}
 use Rattle.search.proofs.layers.take_over.Tie as tie
 
 abbrev Inv-loop : tie.InvT-loop
-Inv-loop next list n sums₀ i₀ sums i = (i ≤ n) × Taken next list sums₀ sums i
+Inv-loop next list n sums₀ changed₀ i₀ sums changed i = (i ≤ n) × Taken next list sums₀ sums changed i
 
 abbrev μ-loop : tie.MeasureT-loop
-μ-loop next list n sums₀ i₀ sums i = n - i
+μ-loop next list n sums₀ changed₀ i₀ sums changed i = n - i
 
 loop-holds : tie.Need-loop-holds Inv-loop μ-loop
-loop-holds c = (omega arith, taken-none _ _ _ (c .pre .1))
+loop-holds c = (omega arith, taken-none _ _ _ _ (c .pre .1) (c .pre .2))
 
-element-copy-out-wide8 : tie.Need-element-copy-out-wide8 Inv-loop μ-loop
-element-copy-out-wide8 c = omega (arith, c .before .before .pre .0 .few, c .loop-test .taken)
+element-copy-out-row : tie.Need-element-copy-out-row Inv-loop μ-loop
+element-copy-out-row c = omega (arith, c .before .before .pre .0 .few, c .loop-test .taken)
 
 wide8-requires : tie.Need-wide8-requires Inv-loop μ-loop
 wide8-requires c κs = search needs
@@ -35,6 +35,9 @@ mul-sums-2 c = omega (arith, c .before .wide8 .ensures, c .before .before .befor
 element-write-sums : tie.Need-element-write-sums Inv-loop μ-loop
 element-write-sums c = omega (arith, c .before .wide8 .ensures, c .before .before .before .before .before .pre .0 .in-rows (c .before .before .before .before .loop .i) (c .before .before .before .loop-test .taken))
 
+element-write-changed : tie.Need-element-write-changed Inv-loop μ-loop
+element-write-changed c = omega (arith, c .before .before .before .before .before .pre .0 .few, c .before .before .before .loop-test .taken)
+
 add-i : tie.Need-add-i Inv-loop μ-loop
 add-i c = omega (arith, c .before .before .before .before .before .pre .0 .few, c .before .before .before .loop-test .taken)
 
@@ -45,14 +48,14 @@ loop-again : tie.Need-loop-again Inv-loop μ-loop
 loop-again c =
     let x = c .before .before .before .before .before .args in
     let l = c .before .before .before .before .loop in
-    (omega (arith, c .before .before .before .loop-test .taken), taken-more (now (x .next)) (now (x .list)) (now (x .sums)) (l .sums) (l .i) (c .before .wide8 .result) _ (l .inv .1) (c .before .wide8 .ensures) (omega (arith, c .before .wide8 .ensures, c .before .before .before .before .before .pre .0 .in-rows (l .i) (c .before .before .before .loop-test .taken))) refl)
+    (omega (arith, c .before .before .before .loop-test .taken), taken-more (now (x .next)) (now (x .list)) (now (x .sums)) (l .sums) (l .changed) (l .i) _ (c .before .wide8 .result) _ (l .inv .1) refl (c .before .wide8 .ensures) (omega (arith, c .before .wide8 .ensures, c .before .before .before .before .before .pre .0 .in-rows (l .i) (c .before .before .before .loop-test .taken))) (omega (arith, c .before .before .before .before .before .pre .0 .few, c .before .before .before .loop-test .taken)) refl)
 
 returns : tie.Need-returns Inv-loop μ-loop
 returns c =
     let x = c .before .before .args in
     let l = c .before .loop in
     let e : l .i ≡ x .n = omega arith in
-    subst (λ (z : ℕ). Taken (now (x .next)) (now (x .list)) (now (x .sums)) (l .sums) z) e (l .inv .1)
+    subst (λ (z : ℕ). Taken (now (x .next)) (now (x .list)) (now (x .sums)) (l .sums) (l .changed) z) e (l .inv .1)
 
 pub take-over-spec : {M : Type 1} → statement M
 take-over-spec =
@@ -61,12 +64,13 @@ take-over-spec =
     Inv-loop
     μ-loop
     loop-holds
-    element-copy-out-wide8
+    element-copy-out-row
     wide8-requires
     mul-sums
     element-copy-out-sums
     mul-sums-2
     element-write-sums
+    element-write-changed
     add-i
     loop-less
     loop-again

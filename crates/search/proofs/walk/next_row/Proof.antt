@@ -10,10 +10,10 @@ use Rattle.search.proofs.walk.next_row.Statement.{statement}
 use Rattle.search.proofs.walk.next_row.Tie as tie
 
 abbrev Inv-loop : tie.InvT-loop
-Inv-loop t units costs values work j a paid rows limit b₀ b = Looking (working t units costs values) (needRead t values work j) a paid rows b
+Inv-loop t units held costs values work j a paid rows limit b₀ b = Looking (working t units costs values) (needRead t values work j) a paid rows b
 
 abbrev μ-loop : tie.MeasureT-loop
-μ-loop t units costs values work j a paid rows limit b₀ b = rows - b
+μ-loop t units held costs values work j a paid rows limit b₀ b = rows - b
 
 cap-requires : tie.Need-cap-requires Inv-loop μ-loop
 cap-requires c κs = search needs
@@ -33,7 +33,9 @@ floor-requires : tie.Need-floor-requires Inv-loop μ-loop
 floor-requires c κs = search needs
 
 deliverable-requires : tie.Need-deliverable-requires Inv-loop μ-loop
-deliverable-requires c κs = search needs
+deliverable-requires c κs =
+    let u = c .before .before .before .before .before .before .before .before .before .before .pre .0 .rows-are in
+    (rw (← u) (c .before .before .before .before .before .before .before .before .before .before .pre .3), omega (arith, c .before .before .before .loop .inv .from, c .before .before .loop-test .taken), omega (arith, c .before .before .loop-test .taken))
 
 returns : tie.Need-returns Inv-loop μ-loop
 returns c =

@@ -7,15 +7,15 @@ use Rattle.search.proofs.walk.walk.Statement.{statement}
 use Rattle.search.proofs.walk.walk.Tie as tie
 
 abbrev Inv-loop : tie.InvT-loop
-Inv-loop t units costs values work steps places₀ sums₀ left₀ k₀ a₀ paid₀ places sums left k a paid = Going (working t units costs values) (t .rows) steps places₀ places sums₀ sums left k a paid
+Inv-loop t units held costs values work steps places₀ sums₀ left₀ k₀ a₀ paid₀ places sums left k a paid = Going (working t units costs values) (t .rows) steps places₀ places sums₀ sums left k a paid
 
 abbrev μ-loop : tie.MeasureT-loop
-μ-loop t units costs values work steps places₀ sums₀ left₀ k₀ a₀ paid₀ places sums left k a paid = left
+μ-loop t units held costs values work steps places₀ sums₀ left₀ k₀ a₀ paid₀ places sums left k a paid = left
 
 loop-holds : tie.Need-loop-holds Inv-loop μ-loop
 loop-holds c =
     let x = c .before .before .before .before .before .before .args in
-    going-start (x .t) (now (x .units)) (now (x .costs)) (now (x .values)) (now (x .work)) (x .steps) (now (x .places)) (now (x .sums)) (c .before .before .before .before .before .before .pre)
+    going-start (x .t) (now (x .units)) (now (x .costs)) (now (x .values)) (now (x .work)) (x .steps) (now (x .places)) (now (x .sums)) (c .before .before .before .before .before .before .pre .0)
 
 sub-left : tie.Need-sub-left Inv-loop μ-loop
 sub-left c = search needs
@@ -27,13 +27,13 @@ next-row-requires : tie.Need-next-row-requires Inv-loop μ-loop
 next-row-requires c κs =
     let x = c .before .before .before .before .before .before .before .before .before .args in
     let l = c .before .before .loop in
-    (c .before .before .before .before .before .before .before .before .before .pre .good, l .inv .in-rows, going-room (x .t) (now (x .units)) (now (x .costs)) (now (x .values)) (now (x .work)) (x .steps) (now (x .places)) (now (x .sums)) (c .before .before .before .before .before .before .before .before .before .pre) (l .inv) (c .before .loop-test .taken))
+    (c .before .before .before .before .before .before .before .before .before .pre .0 .good, l .inv .in-rows, going-room (x .t) (now (x .units)) (now (x .costs)) (now (x .values)) (now (x .work)) (x .steps) (now (x .places)) (now (x .sums)) (c .before .before .before .before .before .before .before .before .before .pre .0) (l .inv) (c .before .loop-test .taken), c .before .before .before .before .before .before .before .before .before .pre .1)
 
 cap-requires : tie.Need-cap-requires Inv-loop μ-loop
-cap-requires c κs = omega (arith, c .before .before .before .before .before .before .before .before .before .before .pre .good .some)
+cap-requires c κs = omega (arith, c .before .before .before .before .before .before .before .before .before .before .pre .0 .good .some)
 
 cast-store-u16 : tie.Need-cast-store-u16 Inv-loop μ-loop
-cast-store-u16 c = omega (arith, c .before .before .next-row .ensures .0, c .before .before .before .before .before .before .before .before .before .before .before .before .pre .good .few)
+cast-store-u16 c = omega (arith, c .before .before .next-row .ensures .0, c .before .before .before .before .before .before .before .before .before .before .before .before .pre .0 .good .few)
 
 store-u16-requires : tie.Need-store-u16-requires Inv-loop μ-loop
 store-u16-requires c κs = search needs
@@ -51,7 +51,7 @@ loop-again : tie.Need-loop-again Inv-loop μ-loop
 loop-again c =
     let x = c .before .before .before .before .before .before .before .before .before .before .before .before .before .before .before .before .before .before .before .args in
     let l = c .before .before .before .before .before .before .before .before .before .before .before .before .loop in
-    going-on (x .t) (now (x .units)) (now (x .costs)) (now (x .values)) (now (x .work)) (x .steps) (now (x .places)) (now (x .sums)) (c .before .before .before .before .before .before .before .before .before .before .before .before .before .before .before .before .before .before .before .pre) (l .inv) (c .before .before .before .before .before .before .before .before .before .before .before .loop-test .taken) (c .before .before .before .before .before .before .before .before .before .before .wide32 .ensures .0) (c .before .before .before .before .before .before .before .before .before .next-row .ensures .0) (c .before .before .before .before .before .before .before .before .before .next-row .ensures .1) (c .before .before .before .before .before .before .before .before .cap .ensures) (c .before .before .before .before .before .before .store-u16 .ensures) (c .before .before .store-u32 .ensures)
+    going-on (x .t) (now (x .units)) (now (x .costs)) (now (x .values)) (now (x .work)) (x .steps) (now (x .places)) (now (x .sums)) (c .before .before .before .before .before .before .before .before .before .before .before .before .before .before .before .before .before .before .before .pre .0) (l .inv) (c .before .before .before .before .before .before .before .before .before .before .before .loop-test .taken) (c .before .before .before .before .before .before .before .before .before .before .wide32 .ensures .0) (c .before .before .before .before .before .before .before .before .before .next-row .ensures .0) (c .before .before .before .before .before .before .before .before .before .next-row .ensures .1) (c .before .before .before .before .before .before .before .before .cap .ensures) (c .before .before .before .before .before .before .store-u16 .ensures) (c .before .before .store-u32 .ensures)
 
 same-length : tie.Need-same-length Inv-loop μ-loop
 same-length c = c .before .loop .inv .places-long
@@ -63,7 +63,7 @@ returns : tie.Need-returns Inv-loop μ-loop
 returns c =
     let x = c .before .before .before .before .before .before .before .before .args in
     let l = c .before .loop in
-    going-done (x .t) (now (x .units)) (now (x .costs)) (now (x .values)) (now (x .work)) (x .steps) (now (x .places)) (now (x .sums)) (c .before .before .before .before .before .before .before .before .pre) (l .inv) (omega (arith, c .loop-test .left))
+    going-done (x .t) (now (x .units)) (now (x .costs)) (now (x .values)) (now (x .work)) (x .steps) (now (x .places)) (now (x .sums)) (c .before .before .before .before .before .before .before .before .pre .0) (l .inv) (omega (arith, c .loop-test .left))
 
 pub walk-spec : {M : Type 1} → statement M
 walk-spec =

@@ -1,0 +1,68 @@
+use denote.Ref.{now}
+use mathlib.Core.Path.{refl}
+use borrow.Author.Needs.{needs}
+use Rattle.planning.proofs.ReadLaws.{read-refused, read-accepted, read-stands}
+use Rattle.plans.proofs.PlanLaws.{refused-plans, accepted-plans}
+use Rattle.plans.proofs.contracts.plan_other.Statement.{statement}
+use Rattle.plans.proofs.contracts.plan_other.Tie as tie
+
+slice-aggregate-read : tie.Need-slice-aggregate-read
+slice-aggregate-read c = search needs
+
+slice-aggregate-read-2 : tie.Need-slice-aggregate-read-2
+slice-aggregate-read-2 c = search needs
+
+read-requires : tie.Need-read-requires
+read-requires c κs = search needs
+
+enum-known-reply : tie.Need-enum-known-reply
+enum-known-reply c = search needs
+
+enum-told : tie.Need-enum-told
+enum-told c = search needs
+
+slice-aggregate-plan-contract : tie.Need-slice-aggregate-plan-contract
+slice-aggregate-plan-contract c = search needs
+
+slice-aggregate-plan-contract-2 : tie.Need-slice-aggregate-plan-contract-2
+slice-aggregate-plan-contract-2 c = search needs
+
+plan-contract-requires : tie.Need-plan-contract-requires
+plan-contract-requires c κs = (read-stands _ _ _ (c .before .before .before .before .before .before .before .before .before .before .before .before .before .before .before .before .before .before .pre) refl refl _ _ _ (c .before .before .before .before .before .before .before .before .before .before .read .ensures) (c .before .before .before .before .before .before .enum-told .given .1), λ q. (c .before .before .before .before .before .before .before .before .before .before .before .before .before .before .before .before .before .before .pre) _ (read-accepted _ _ _ (c .before .before .before .before .before .before .before .before .before .before .before .before .before .before .before .before .before .before .pre) refl refl _ _ _ (c .before .before .before .before .before .before .before .before .before .before .read .ensures) (c .before .before .before .before .before .before .enum-told .given .1)) q)
+
+returns : tie.Need-returns
+returns c = refused-plans (now (c .before .before .before .before .before .before .before .before .before .before .before .before .before .args .bytes)) _ _ (read-refused _ _ _ (c .before .before .before .before .before .before .before .before .before .before .before .before .before .pre) refl refl _ _ _ (c .before .before .before .before .before .read .ensures) _ (c .before .reply .given .1))
+
+same-length : tie.Need-same-length
+same-length c = search needs
+
+same-length-2 : tie.Need-same-length-2
+same-length-2 c = search needs
+
+same-length-3 : tie.Need-same-length-3
+same-length-3 c = search needs
+
+same-length-4 : tie.Need-same-length-4
+same-length-4 c = search needs
+
+returns-2 : tie.Need-returns-2
+returns-2 c = accepted-plans (now (c .before .before .before .before .before .before .before .before .before .before .before .before .before .before .before .before .before .before .before .before .before .before .before .before .before .before .before .args .bytes)) _ _ _ _ (read-accepted _ _ _ (c .before .before .before .before .before .before .before .before .before .before .before .before .before .before .before .before .before .before .before .before .before .before .before .before .before .before .before .pre) refl refl _ _ _ (c .before .before .before .before .before .before .before .before .before .before .before .before .before .before .before .before .before .before .before .read .ensures) (c .before .before .before .before .before .before .before .before .before .before .before .before .before .before .before .enum-told .given .1)) (c .before .before .before .before .before .before .before .before .plan-contract .ensures)
+
+pub plan-other-spec : {M : Type 1} → statement M
+plan-other-spec =
+    tie.close
+    (tie.spec
+    slice-aggregate-read
+    slice-aggregate-read-2
+    read-requires
+    enum-known-reply
+    enum-told
+    slice-aggregate-plan-contract
+    slice-aggregate-plan-contract-2
+    plan-contract-requires
+    returns
+    same-length
+    same-length-2
+    same-length-3
+    same-length-4
+    returns-2)

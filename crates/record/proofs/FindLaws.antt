@@ -1,0 +1,122 @@
+-- Laws of finding a ladder in its record. Assumes nothing.
+use mathlib.Core.Path.{_≡_, sym, ap, subst, _∙_}
+use mathlib.Core.Bool.{Bool, true, false}
+use mathlib.Core.List.{List}
+use Prim.Native.Nat.{ℕ, zero, suc, _+_}
+use native.Mathlib.Nat.{zero-add, add-zero, one-mul}
+use native.Mathlib.Omega.{arith}
+use lib.Dec.{eqb}
+use lib.ListN.{length}
+use Rattle.area.specs.Entries.{column}
+use Rattle.area.proofs.Laws.{column-zero, column-suc}
+use Rattle.grid.specs.Rows.{rising}
+use Rattle.contract.specs.Res.{refused, ok, bind}
+use Rattle.contract.specs.Contract.{Contract}
+use Rattle.contract.specs.Field.{Head, headAt}
+use Rattle.contract.specs.Parse.{parse, bodyAt}
+use Rattle.contract.specs.Segments.{Sums, from, costValue, segment, segments, segmentCount, segmentContract, segmentBody}
+use Rattle.contract.specs.Serialize.{formBits}
+use Rattle.contract.specs.Table.{tableAt, tableContract, tableEnd, tableBody, unitsOf, cellsOf}
+use Rattle.contract.specs.Valid.{sum}
+use Rattle.contract.specs.declared.Form.{Form}
+use Rattle.contract.proofs.ParsedValid.ResLaws.{ok-inv, bind-inv, test-inv, Gives, passed}
+use Rattle.contract.proofs.ParsedValid.FieldLaws.{amount-gives}
+use Rattle.record.specs.Find.{LadderFound}
+use Rattle.record.specs.View.Head.{LadderHead}
+use Rattle.record.specs.View.Segments.{Found, found, ToEnd}
+use Rattle.record.proofs.AnswerLaws.{parse-form}
+use Rattle.record.proofs.LadderLaws.{unit}
+use Rattle.record.proofs.SegmentLaws.{body-found}
+
+-- ---- the totals
+
+-- a unit that was read lifts the totals by its cost and value
+unit-gives : (s : List ℕ) (c : Sums) → Gives (segment false s c) (Unit {0}) (unit s c)
+unfolding segment costValue
+unit-gives s c d e =
+    let (_, e₁) = passed (amount-gives s 1 (c .cost) (c .at)) _ e in
+    let (_, e₂) = passed (amount-gives s 1 (c .value) (c .at + 4)) _ e₁ in
+    let end : c .at + 4 + 4 ≡ c .at + 8 = omega arith in
+    (tt, rw (← end) (simp one-mul at (sym (ok-inv e₂))))
+
+-- the totals d after n units are those before with the sums of their costs and values
+record Added (s : List ℕ) (n : ℕ) (c d : Sums) : Type 0 where
+  cost : d .cost ≡ c .cost + sum (column 4 s (c .at) 8 n)
+  value : d .value ≡ c .value + sum (column 4 s (c .at + 4) 8 n)
+
+units-add : (s : List ℕ) (n : ℕ) (c d : Sums) → segments false s n c ≡ ok d → Added s n c d
+unfolding segments sum
+units-add s zero c d e = rw (← ok-inv e) record { cost = rw column-zero (omega arith); value = rw column-zero (omega arith) }
+units-add s (suc n) c d e =
+    let (_, e₁) = passed (unit-gives s c) _ e in
+    let rest : Added s n (unit s c) d = units-add s n (unit s c) d e₁ in
+    let next : c .at + 8 + 4 ≡ c .at + 4 + 8 = omega arith in
+    let value = rw next at (rest .value) in
+    record { cost = rw column-suc (omega (arith, rest .cost)); value = rw column-suc (omega (arith, value)) }
+
+-- the totals of the segments found are the sums of their costs and values
+record Summed (s : List ℕ) (r : Found) : Type 0 where
+  cost : r .cost ≡ sum (column 4 s (r .first) 8 (r .count))
+  value : r .value ≡ sum (column 4 s (r .first + 4) 8 (r .count))
+
+found-summed : (s : List ℕ) (i : ℕ) (r : Found) → found false s i ≡ ok r → Summed s r
+unfolding found
+found-summed s i r e =
+    let (n, _, e₁) = bind-inv (segmentCount false s i) _ e in
+    let (c, ec, e₂) = bind-inv (segments false s (n .value) (from (n .next))) _ e₁ in
+    let (_, e₃) = test-inv (eqb (c .at) (length s)) _ _ e₂ in
+    let a : Added s (n .value) (from (n .next)) c = units-add s (n .value) (from (n .next)) c ec in
+    subst (Summed s) (ok-inv e₃) record { cost = a .cost ∙ zero-add _; value = a .value ∙ zero-add _ }
+
+-- ---- a ladder
+
+module _ {s : List ℕ} {h : Head} (g : LadderHead s h) where
+  -- the record says the contract of the segments found
+  body : parse s ≡ bind (found false s (h .next)) (λ r. ok (segmentContract false s h (r .count) (r .first)))
+  body = parse-form s h Form.Ladder (g .said) (g .read .form-is) ∙ body-found false s h
+
+  pub ladder-refused : {n : ℕ} → found false s (h .next) ≡ refused n → parse s ≡ refused n
+  ladder-refused e = body ∙ rw e
+
+  pub ladder-found : {r : Found} → found false s (h .next) ≡ ok r → ToEnd false s r
+      → LadderFound s (record { price = h .price; supplier = h .supplier; buyer = h .buyer; first = r .first; count = r .count; cost = r .cost; value = r .value })
+  unfolding segmentContract
+  ladder-found {r} e t =
+      let sums : Summed s r = found-summed s (h .next) r e in
+      record {
+        says = body ∙ rw (e, g .read .form-is, add-zero);
+        ends = t .ends;
+        few = t .few;
+        cost-is = sums .cost;
+        value-is = sums .value;
+      }
+
+-- ---- another form
+
+-- a contract has the form of its head
+segments-form : (p : Bool) (s : List ℕ) (h : Head) (k : Contract) → segmentBody p s h ≡ ok k → k .form ≡ h .form
+unfolding segmentContract
+segments-form p s h k e =
+    let (_, _, e₁) = bind-inv (found p s (h .next)) _ (sym (body-found p s h) ∙ e) in
+    ap (λ (c : Contract). c .form) (sym (ok-inv e₁))
+
+table-form : (s : List ℕ) (h : Head) (k : Contract) → tableBody s h ≡ ok k → k .form ≡ h .form
+unfolding tableBody tableEnd tableContract
+table-form s h k e =
+    let (t, _, e₁) = bind-inv (tableAt s (h .next)) _ e in
+    let (_, e₂) = test-inv (eqb (t .values .end) (length s)) _ _ e₁ in
+    let (_, e₃) = test-inv (rising (unitsOf s t) (cellsOf s t (t .costs)) (t .rows)) _ _ e₂ in
+    let (_, e₄) = test-inv (rising (unitsOf s t) (cellsOf s t (t .values)) (t .rows)) _ _ e₃ in
+    ap (λ (c : Contract). c .form) (sym (ok-inv e₄))
+
+body-form : (f : Form) (s : List ℕ) (h : Head) (k : Contract) → bodyAt f s h ≡ ok k → k .form ≡ h .form
+body-form Form.Ladder s h k e = segments-form false s h k e
+body-form Form.UnitPrices s h k e = segments-form true s h k e
+body-form Form.Table s h k e = table-form s h k e
+
+-- a record whose head is of another form says no ladder
+pub no-ladder : (s : List ℕ) (h : Head) (f : Form) → headAt s ≡ ok h → h .form ≡ f → (formBits f ≡ 1 → ⊥)
+    → (k : Contract) → parse s ≡ ok k → k .form ≡ Form.Ladder → ⊥
+no-ladder s h f e q other k p l =
+    let b : k .form ≡ h .form = body-form f s h k (sym (parse-form s h f e q) ∙ p) in
+    other (ap formBits (sym q ∙ sym b ∙ l))

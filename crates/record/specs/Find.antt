@@ -1,0 +1,44 @@
+-- What finding a ladder promises.
+use mathlib.Core.Path.{_≡_}
+use mathlib.Core.List.{List, []}
+use Prim.Native.Nat.{ℕ, _+_, _*_, _≤_}
+use lib.ListN.{length}
+use Rattle.area.specs.Entries.{column}
+use Rattle.contract.specs.Res.{refused, ok}
+use Rattle.contract.specs.Contract.{Contract, numberOf}
+use Rattle.contract.specs.Parse.{parse}
+use Rattle.contract.specs.Valid.{sum}
+use Rattle.contract.specs.declared.Form.{Form}
+use Rattle.record.specs.declared.Ladder.{Ladder}
+use Rattle.record.specs.declared.Found.{Found}
+
+-- the contract of a ladder whose rises stand in the record
+abbrev pub ladderIn : List ℕ → Ladder → Contract
+ladderIn s l =
+    record {
+      price = l .price;
+      supplier = l .supplier;
+      buyer = l .buyer;
+      form = Form.Ladder;
+      units = [];
+      costs = column 4 s (l .first) 8 (l .count);
+      values = column 4 s (l .first + 4) 8 (l .count);
+    }
+
+-- a ladder that was found: the record says its contract, its rises reach to the record's end, and the totals are theirs
+pub record LadderFound (s : List ℕ) (l : Ladder) : Type 0 where
+  pub says : parse s ≡ ok (ladderIn s l)
+  pub ends : l .first + l .count * 8 ≡ length s
+  pub few : l .count ≤ 1000
+  pub cost-is : l .cost ≡ sum (column 4 s (l .first) 8 (l .count))
+  pub value-is : l .value ≡ sum (column 4 s (l .first + 4) 8 (l .count))
+
+-- a record that says no ladder
+abbrev pub NoLadder : List ℕ → Type 0
+NoLadder s = (k : Contract) → parse s ≡ ok k → k .form ≡ Form.Ladder → ⊥
+
+-- the promise of finding a ladder: the record's refusal, a ladder, or that the record is of another form
+abbrev pub Finds : List ℕ → Found → Type 0
+Finds s (Found.Refused e) = parse s ≡ refused (numberOf e)
+Finds s (Found.Ladder l) = LadderFound s l
+Finds s Found.Other = NoLadder s
