@@ -136,17 +136,16 @@ fn place(
     let mut todo = [true; 8];
     let mut items = [0u8; 8];
     let mut count = 0;
-    let mut k = 0;
-    while k < units.len() {
+    while count < units.len() {
         let j = find_best(front, units, needs, gives, &todo, added, taken);
-        if j < units.len() {
-            todo[j] = false;
-            items[count] = j as u8 + 1;
-            count += 1;
-            added += block(units, gives, j);
-            taken += block(units, needs, j);
+        if units.len() <= j {
+            return Items { items, count };
         }
-        k += 1;
+        todo[j] = false;
+        items[count] = j as u8 + 1;
+        added += block(units, gives, j);
+        taken += block(units, needs, j);
+        count += 1;
     }
     Items { items, count }
 }

@@ -1,9 +1,9 @@
-// The numbers of a deal, the answers of planning, the bounds of a place, and the tests of a state and of a step.
+// The numbers of a deal, the answers of planning, the bounds of a place, and the test of a state.
 ghost use mathlib.Core.Path.{_≡_};
 ghost use Prim.Native.Nat.{_<_, _^_};
 ghost use lib.IntN.{subℕ};
 ghost use Rattle.exchange.specs.Bounds.{upperOf, lowerOf};
-ghost use Rattle.exchange.specs.Test.{safeTest, stepTest};
+ghost use Rattle.exchange.specs.Test.{safeTest};
 
 // P and the defection costs of the supplier and the buyer.
 pub struct Sides {
@@ -66,27 +66,4 @@ pub fn safe(paid: u32, at: Bounds, price: u32) -> bool
         return false;
     }
     paid <= price
-}
-
-// Whether it is a step from (a, p) to (b, q): b holds the units of a, q is not below p, and all four states are safe.
-// (b, p) tests the delivery by the payment before it, (a, q) the payment by the delivery before it.
-pub fn step(holds: bool, a: Bounds, b: Bounds, p: u32, q: u32, price: u32) -> bool
-    ensures { λ r. ⌜ r ≡ stepTest holds a b p q price ⌝ }
-{
-    if !holds {
-        return false;
-    }
-    if q < p {
-        return false;
-    }
-    if !safe(p, a, price) {
-        return false;
-    }
-    if !safe(p, b, price) {
-        return false;
-    }
-    if !safe(q, a, price) {
-        return false;
-    }
-    safe(q, b, price)
 }

@@ -27,9 +27,9 @@ pub(crate) fn plan_ladder(
     }
     area::clear(work);
     match ladder::plan(planning::ladder_of(l), bytes, places, sums) {
-        exchange::Planned::Steps(n) => {
+        exchange::Planned::Steps(steps) => {
             order::store(order, [0u8; 8]);
-            Planned::Steps(n)
+            Planned::Steps(steps)
         }
         exchange::Planned::Impossible => Planned::Impossible,
         exchange::Planned::Unfit => Planned::Impossible,

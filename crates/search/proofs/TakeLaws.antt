@@ -2,39 +2,29 @@
 use mathlib.Core.Path.{_≡_, refl, sym, ap, _∙_}
 use mathlib.Core.Bool.{cond}
 use mathlib.Core.List.{List}
-use Prim.Native.Nat.{ℕ, _+_, _≤_, _<_}
+use Prim.Native.Nat.{ℕ, suc, _+_, _-_, _≤_, _<_}
 use native.Mathlib.Decide.{ℕ-discrete, decLt}
 use native.Mathlib.Omega.{arith}
 use borrow.Author.Tests.{lt-ltb, le-ltb}
 use lib.Dec.{ltb}
 use lib.ListN.{length, getD, set, length-set}
 use lib.Seq.{getD-set-same, getD-set-other}
-use Rattle.search.specs.Layers.{mark, Listed, Listing, Taken, TakenOver, Noted}
+use Rattle.search.specs.Layers.{mark, Listed, Listing, Taken, Reversed, TakenOver, Noted}
 
 -- ---- the loop that takes the offers over
 
-pub taken-none : (next list sums changed : List ℕ) → length sums ≡ 128 → length changed ≡ 128 → Taken next list sums sums changed 0
-taken-none next list sums changed p q =
-    record { sums-long = p; changed-long = q; changed-is = λ i l. absurd (omega arith); sum-is = λ i l. absurd (omega arith); kept = λ a n. refl }
+pub taken-none : (next list sums : List ℕ) → length sums ≡ 128 → Taken next list sums sums 0
+taken-none next list sums h = record { sums-long = h; sum-is = λ i l. absurd (omega arith); kept = λ a n. refl }
 
-pub taken-more : (next list sums₀ sums changed : List ℕ) (i x a v : ℕ) → Taken next list sums₀ sums changed i → x ≡ getD list i 0 → a ≡ x → a < 128 → i < 128
-    → v ≡ getD next a 0 → Taken next list sums₀ (set sums a v) (set changed i x) (i + 1)
-taken-more next list sums₀ sums changed i x a v h d c l few f =
+pub taken-more : (next list sums₀ sums : List ℕ) (i a v : ℕ) → Taken next list sums₀ sums i → a ≡ getD list i 0 → a < 128 → v ≡ getD next a 0
+    → Taken next list sums₀ (set sums a v) (i + 1)
+taken-more next list sums₀ sums i a v h e l f =
     record {
       sums-long = length-set sums a v ∙ h .sums-long;
-      changed-long = length-set changed i x ∙ h .changed-long;
-      changed-is = λ k m. row k m (ℕ-discrete k i);
       sum-is = λ k m. at k m (ℕ-discrete (getD list k 0) a);
       kept = λ b n. getD-set-other sums a b v 0 (λ q. n i (omega arith) (sym e ∙ sym q)) ∙ h .kept b (λ k m. n k (omega arith));
     }
   where
-    e : a ≡ getD list i 0
-    e = c ∙ d
-
-    row : (k : ℕ) → k < i + 1 → Dec (k ≡ i) → getD (set changed i x) k 0 ≡ getD list k 0
-    row k m (yes q) = rw (q, ← d) (getD-set-same changed i x 0 (omega (arith, h .changed-long)))
-    row k m (no z) = getD-set-other changed i k x 0 z ∙ h .changed-is k (omega arith)
-
     at : (k : ℕ) → k < i + 1 → Dec (getD list k 0 ≡ a) → getD (set sums a v) (getD list k 0) 0 ≡ getD next (getD list k 0) 0
     at k m (yes q) = rw (q, ← f) (getD-set-same sums a v 0 (omega (arith, h .sums-long)))
     at k m (no n) = getD-set-other sums a (getD list k 0) v 0 n ∙ h .sum-is k (old (ℕ-discrete k i))
@@ -43,18 +33,32 @@ taken-more next list sums₀ sums changed i x a v h d c l few f =
         old (yes q) = absurd (n (ap (λ (z : ℕ). getD list z 0) q ∙ sym e))
         old (no z) = omega arith
 
+pub reversed-none : (list changed : List ℕ) (n : ℕ) → length changed ≡ 128 → Reversed list changed n 0
+reversed-none list changed n h = record { long = h; entry = λ k l. absurd (omega arith) }
+
+pub reversed-more : {list changed : List ℕ} {n i : ℕ} → Reversed list changed n i → i < n → n ≤ 128 → Reversed list (set changed (n - (i + 1)) (getD list i 0)) n (i + 1)
+reversed-more {list} {changed} {n} {i} h l few =
+    record { long = length-set changed (n - (i + 1)) (getD list i 0) ∙ h .long; entry = λ k m. go k m (ℕ-discrete k i) }
+  where
+    here : n - suc i ≡ n - (i + 1)
+    here = omega arith
+
+    go : (k : ℕ) → k < i + 1 → Dec (k ≡ i) → getD (set changed (n - (i + 1)) (getD list i 0)) (n - suc k) 0 ≡ getD list k 0
+    go k m (yes q) = rw (q, here) (getD-set-same changed (n - (i + 1)) (getD list i 0) 0 (omega (arith, h .long)))
+    go k m (no z) = getD-set-other changed (n - (i + 1)) (n - suc k) (getD list i 0) 0 (λ q. omega arith) ∙ h .entry k (omega arith)
+
 -- the rows of the list are those with an offer
-pub taken-over : {next list sums sums′ changed : List ℕ} {n rows : ℕ} → Listing next list n rows → Taken next list sums sums′ changed n
+pub taken-over : {next list sums sums′ changed : List ℕ} {n rows : ℕ} → Listing next list n rows → Taken next list sums sums′ n → Reversed list changed n n
     → TakenOver next sums sums′ changed n rows
-taken-over {next} {list} {sums} {sums′} {changed} {n} {rows} h t =
+taken-over {next} {list} {sums} {sums′} {changed} {n} {rows} h t r =
     record {
       sums-long = t .sums-long;
-      changed-long = t .changed-long;
+      changed-long = r .long;
       sum-is = λ a l. go a l (decLt (getD next a 0) mark);
       lists = λ a l m.
           let x = h .lists a l m in
-          record { index = x .index; below = x .below; entry = t .changed-is (x .index) (x .below) ∙ x .entry };
-      listed = record { few = h .listed .few; in-rows = λ i l. rw (t .changed-is i l) (h .listed .in-rows i l) };
+          record { index = n - suc (x .index); below = omega (arith, x .below); entry = r .entry (x .index) (x .below) ∙ x .entry };
+      listed = record { few = h .listed .few; in-rows = row };
     }
   where
     go : (a : ℕ) → a < rows → Dec (getD next a 0 < mark) → getD sums′ a 0 ≡ cond (ltb (getD next a 0) mark) (getD next a 0) (getD sums a 0)
@@ -63,6 +67,12 @@ taken-over {next} {list} {sums} {sums′} {changed} {n} {rows} h t =
         rw (lt-ltb (getD next a 0) mark m, ← x .entry) (t .sum-is (x .index) (x .below))
     go a l (no m) =
         rw (le-ltb (getD next a 0) mark (omega arith)) (t .kept a (λ i k q. m (rw (← q) (h .taken i k))))
+
+    row : (i : ℕ) → i < n → getD changed i 0 < rows
+    row i l =
+        let k : n - suc i < n = omega arith in
+        let e : i ≡ n - suc (n - suc i) = omega arith in
+        rw (e, r .entry (n - suc i) k) (h .listed .in-rows (n - suc i) k)
 
 pub listed-few : {list : List ℕ} {n rows : ℕ} → Listed list n rows → rows ≤ 128 → Listed list n 128
 listed-few h l = record { few = h .few; in-rows = λ i m. omega (arith, h .in-rows i m) }

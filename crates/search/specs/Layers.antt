@@ -152,13 +152,16 @@ pub record RowListed (list : List ℕ) (n a best : ℕ) (list′ : List ℕ) (n�
   pub list-is : list′ ≡ cond (ltb best mark) list (set list n a)
   pub count-is : n′ ≡ cond (ltb best mark) n (n + 1)
 
--- the offers of the first n rows of a list become their sums, and the other rows keep theirs; the list is that of the changed rows
-pub record Taken (next list sums sums′ changed : List ℕ) (n : ℕ) : Type 0 where
+-- the offers of the first n rows of a list become their sums, and the other rows keep theirs
+pub record Taken (next list sums sums′ : List ℕ) (n : ℕ) : Type 0 where
   pub sums-long : length sums′ ≡ 128
-  pub changed-long : length changed ≡ 128
-  pub changed-is : (i : ℕ) → i < n → getD changed i 0 ≡ getD list i 0
   pub sum-is : (i : ℕ) → i < n → getD sums′ (getD list i 0) 0 ≡ getD next (getD list i 0) 0
   pub kept : (a : ℕ) → ((i : ℕ) → i < n → getD list i 0 ≡ a → ⊥) → getD sums′ a 0 ≡ getD sums a 0
+
+-- the first i entries of a list stand in another, from its n-th entry back
+pub record Reversed (list changed : List ℕ) (n i : ℕ) : Type 0 where
+  pub long : length changed ≡ 128
+  pub entry : (k : ℕ) → k < i → getD changed (n - suc k) 0 ≡ getD list k 0
 
 -- an offer below the mark becomes the sum of its row, and the list has the row
 pub record TakenOver (next sums sums′ changed : List ℕ) (n rows : ℕ) : Type 0 where
@@ -201,6 +204,12 @@ pub record Arrival (caps floors sums changed : List ℕ) (n : ℕ) : Type 0 wher
 pub record Arrives (caps floors sums changed : List ℕ) (n : ℕ) (r : Bool) : Type 0 where
   pub found : r ≡ true → Arrival caps floors sums changed n
   pub none : r ≡ false → Arrival caps floors sums changed n → ⊥
+
+-- the arrays before the first step: the price at the last row, which names itself and has changed
+pub record Begun (t : Terms) (sums named changed : List ℕ) : Type 0 where
+  pub sums-are : sums ≡ set (replicate 128 mark) (t .rows - 1) (t .sides .price)
+  pub named-are : named ≡ set (replicate 128 255) (t .rows - 1) (t .rows - 1)
+  pub changed-are : changed ≡ set (replicate 128 255) 0 (t .rows - 1)
 
 -- an array has what each row needs to end in j steps
 abbrev pub Needs : Work → ℕ → List ℕ → Type 0

@@ -5,7 +5,7 @@ ghost use lib.ListN.{length, set, replicate};
 ghost use Rattle.grid.specs.Rows.{rowsOf};
 ghost use Rattle.exchange.specs.Forms.{holdsRow};
 ghost use Rattle.search.specs.Units.{RowUnits};
-ghost use Rattle.search.specs.Layers.{working, Table, Tops, mark, layer, takes, offerTo, offered, Offers, Listed, Listing, RowListed, Taken, CanStep, Stepped, Noted, Arrives, Counted};
+ghost use Rattle.search.specs.Layers.{working, Table, Tops, mark, layer, takes, offerTo, offered, Offers, Listed, Listing, RowListed, Taken, Reversed, CanStep, Stepped, Noted, Arrives, Begun, Counted};
 use super::Terms;
 use super::UNREACHED;
 use super::limits::all_caps;
@@ -134,7 +134,8 @@ fn offer_all(
     count
 }
 
-// The offers of the first n rows of the list become their sums, and the list that of the changed rows.
+// The offers of the first n rows of the list become their sums, and the list, reversed, that of the changed rows: an offer goes from the last
+// row to the first, and the rows with the least floors should offer first, so that fewer offers are taken.
 fn take_over(
     next: &[u64; 128],
     list: &[u8; 128],
@@ -143,15 +144,15 @@ fn take_over(
     changed: &mut [u8; 128],
 )
     requires { ⌜ Listed (now list) n 128 × (length (now sums) ≡ 128) × (length (now changed) ≡ 128) ⌝ }
-    ensures { λ _. ⌜ Taken (now (next .entry)) (now (list .entry)) (now (sums .entry)) (now (sums .exit)) (now (changed .exit)) n ⌝ }
+    ensures { λ _. ⌜ Taken (now (next .entry)) (now (list .entry)) (now (sums .entry)) (now (sums .exit)) n × Reversed (now (list .entry)) (now (changed .exit)) n n ⌝ }
 {
     let mut i: usize = 0;
     while i < n {
         let row = list[i];
         let a = wide8(row);
         sums[a] = next[a];
-        changed[i] = row;
         i += 1;
+        changed[n - i] = row;
     }
 }
 
@@ -249,6 +250,43 @@ fn arrives(
     false
 }
 
+// Counts the steps, from the arrays before the first step: for each row its sum and the row whose floor that is, and the changed rows.
+fn count_layers(
+    t: Terms,
+    units: &[u16],
+    held: &[u8; 512],
+    costs: &[u32],
+    values: &[u32],
+    sums: &mut [u64; 128],
+    named: &mut [u8; 128],
+    changed: &mut [u8; 128],
+    most: usize,
+    work: &mut [u8],
+) -> usize
+    requires { ⌜ Table t (now units) × RowUnits (now units) (now held) (t .rows) × Begun t (now sums) (now named) (now changed) × (t .rows * (most + 1) ≤ length (now work)) ⌝ }
+    ensures { λ r. ⌜ Counted (working t (now (units .entry)) (now (costs .entry)) (now (values .entry))) (t .rows) most (now (work .exit)) r ⌝ }
+{
+    let caps = all_caps(t, costs);
+    let tops = all_tops(&caps, t.rows);
+    let floors = all_floors(t, values);
+    let mut n: usize = 1;
+    let mut at = t.rows;
+    let mut j: usize = 0;
+    while j < most {
+        if arrives(&caps, &floors, sums, changed, n) {
+            return j + 1;
+        }
+        n = step(units, held, &caps, &tops, &floors, sums, named, changed, n);
+        note(t.rows, named, work, at);
+        if n == 0 {
+            return most + 1;
+        }
+        j += 1;
+        at += t.rows;
+    }
+    most + 1
+}
+
 // The fewest steps of a plan, and most + 1 where there is none. The work area then names the rows of each layer below that count; the last
 // step needs no layer of its own.
 pub(crate) fn count_steps(
@@ -263,38 +301,20 @@ pub(crate) fn count_steps(
     requires { ⌜ Table t (now units) × RowUnits (now units) (now held) (t .rows) × (t .rows * (most + 1) ≤ length (now work)) ⌝ }
     ensures { λ r. ⌜ Counted (working t (now (units .entry)) (now (costs .entry)) (now (values .entry))) (t .rows) most (now (work .exit)) r ⌝ }
 {
-    let caps = all_caps(t, costs);
-    let tops = all_tops(&caps, t.rows);
-    let floors = all_floors(t, values);
-    let mut sums = first_sums(t);
-    // for each row the row whose floor its sum is, 255 for none; and the rows whose sum has changed
     let last = t.rows - 1;
+    let mut sums = first_sums(t);
     let mut named = one_row(last, last);
     let mut changed = one_row(last, 0);
-    let mut n: usize = 1;
-    let mut at = t.rows;
-    let mut j: usize = 0;
-    while j < most {
-        if arrives(&caps, &floors, &sums, &changed, n) {
-            return j + 1;
-        }
-        n = step(
-            units,
-            held,
-            &caps,
-            &tops,
-            &floors,
-            &mut sums,
-            &mut named,
-            &mut changed,
-            n,
-        );
-        note(t.rows, &named, work, at);
-        if n == 0 {
-            return most + 1;
-        }
-        j += 1;
-        at += t.rows;
-    }
-    most + 1
+    count_layers(
+        t,
+        units,
+        held,
+        costs,
+        values,
+        &mut sums,
+        &mut named,
+        &mut changed,
+        most,
+        work,
+    )
 }

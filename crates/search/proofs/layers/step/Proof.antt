@@ -11,7 +11,7 @@ take-over-requires : tie.Need-take-over-requires
 take-over-requires c κs = (listed-few (c .before .before .before .before .offer-all .ensures .1 .listed) (c .before .before .before .before .before .before .before .before .before .before .before .pre .held-units .few), c .before .before .before .before .before .before .before .before .before .before .before .pre .sums-long, c .before .before .before .before .before .before .before .before .before .before .before .pre .changed-long)
 
 returns : tie.Need-returns
-returns c = record { next = _; offers = c .before .before .before .before .before .offer-all .ensures .0; over = taken-over (c .before .before .before .before .before .offer-all .ensures .1) (c .take-over .ensures) }
+returns c = record { next = _; offers = c .before .before .before .before .before .offer-all .ensures .0; over = taken-over (c .before .before .before .before .before .offer-all .ensures .1) (c .take-over .ensures .0) (c .take-over .ensures .1) }
 
 pub step-spec : {M : Type 1} → statement M
 step-spec = tie.close (tie.spec offer-all-requires take-over-requires returns)
