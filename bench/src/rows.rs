@@ -34,6 +34,7 @@ impl Bench {
 
     pub fn all(&self) {
         self.planning();
+        self.filling();
         self.checking();
         self.reporting();
         self.reading();
@@ -71,6 +72,28 @@ impl Bench {
         );
         let steps = if steps > 0 { steps.to_string() } else { "impossible".to_string() };
         self.row(name, &steps, times);
+    }
+
+    /// What the form of the table search costs by itself: the requirements name an array of 128 sums of 64 bits, filled before
+    /// each step. The last step needs no search.
+    fn filling(&self) {
+        self.heading("The form of the table search by itself (as library: only its array filled before each step)");
+        for units in [&[127][..], &[1, 63]] {
+            let name = format!("table, 128 rows, units {units:?}");
+            if !self.wanted(&name) {
+                continue;
+            }
+            let deal = cases::table(units, Risk::Small);
+            let (steps, mut theirs) = agreed_plan(&deal);
+            let mut passed = theirs.clone();
+            let times = side_by_side(
+                self.rounds,
+                || fill_sums(steps - 1),
+                || call_plan(&REFERENCE, &deal, &mut theirs),
+                || pass::plan(&deal, &mut passed, true),
+            );
+            self.row(&name, &steps.to_string(), times);
+        }
     }
 
     fn checking(&self) {
@@ -183,6 +206,12 @@ fn keep(answer: u32) {
 fn call_plan(program: &Program, deal: &Deal, areas: &mut Areas) {
     black_box(program.plan_into(black_box(&deal.record), areas));
     black_box(areas);
+}
+
+fn fill_sums(steps: i64) {
+    for _ in 0..steps {
+        black_box(&mut [1u64 << 32; 128]);
+    }
 }
 
 /// Plans with both: the answer and all areas must be the same.

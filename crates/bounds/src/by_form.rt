@@ -31,6 +31,7 @@ fn bounds_in(header: Header, costs: &[u32], values: &[u32], place: usize, order:
     let us = header.units;
     let n = header.count as usize;
     match form {
+        // A ladder does not come here: it stays in its record.
         Form::Ladder => Bounded::WrongOrder,
         Form::UnitPrices => bounds_prices(
             sides,

@@ -168,6 +168,7 @@ fn check_form(
 {
     let form = header.form;
     match form {
+        // A ladder does not come here: it stays in its record.
         Form::Ladder => Checked::Unsafe,
         Form::UnitPrices => prices_in(header, costs, values, count, places, sums, order),
         Form::Table => table_in(header, costs, values, count, places, sums, order),

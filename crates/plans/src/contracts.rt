@@ -35,6 +35,7 @@ fn plan_contract(
     let units = header.units;
     let n = header.count as usize;
     match form {
+        // A ladder does not come here: it stays in its record.
         Form::Ladder => Planned::Impossible,
         Form::UnitPrices => crate::along::plan_prices(
             sides,
