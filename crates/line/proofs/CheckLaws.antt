@@ -9,7 +9,7 @@ use native.Mathlib.Numerals.{add-one}
 use borrow.Author.Tests.{eqb-true, eq-eqb, leb-true, le-leb, not-true, not-false}
 use lib.Dec.{T, eqb, le→leb}
 use lib.IntN.{ℤ, pos}
-use lib.Signed.{leZ, _≤ℤ_}
+use lib.Signed.{_≤ℤ_}
 use lib.Ieee.Bits.{is-true}
 use lib.ListN.{length, getD}
 use Rattle.area.specs.Entries.{entries}

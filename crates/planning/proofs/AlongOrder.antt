@@ -1,12 +1,12 @@
 -- Segments that stand for a deal: those of unit prices along the order that bytes name. Assumes nothing.
-use mathlib.Core.Path.{_≡_, refl, sym, ap, _∙_, subst}
+use mathlib.Core.Path.{_≡_, sym, ap, _∙_, subst}
 use mathlib.Core.Bool.{Bool, true, false, not, _&&_, and-eq-true-iff}
-use mathlib.Core.List.{List, [], _∷_}
-use Prim.Native.Nat.{ℕ, zero, suc, _-_, _≤_}
+use mathlib.Core.List.{List}
+use Prim.Native.Nat.{ℕ, _-_, _≤_}
 use native.Mathlib.Nat.{sub-zero}
 use native.Mathlib.Omega.{arith}
 use lib.Dec.{leb}
-use lib.ListN.{length, take, length-map}
+use lib.ListN.{length, take}
 use lib.Seq.{take-take}
 use borrow.Author.Tests.{le-leb, not-true, not-false}
 use Rattle.area.specs.Entries.{entries}
@@ -21,7 +21,7 @@ use Rattle.line.specs.Segments.{spread, dealAlong, fits}
 use Rattle.line.specs.BoundsPromise.{hasPlace}
 use Rattle.line.specs.CheckPromise as line
 use Rattle.order.specs.Bytes.{namesEach, picked, firstEight}
-use Rattle.order.proofs.FirstEight.{eight-length, eight-front}
+use Rattle.order.proofs.FirstEight.{eight-front}
 use Rattle.order.proofs.NamedLaws.{picked-take, names-split}
 use Rattle.planning.specs.Deals.{contractWith}
 use Rattle.planning.specs.Order.{orderIn, dealBy}
@@ -68,14 +68,6 @@ module _ (s : Sides) (us cs vs order : List ℕ) (v : Valid (contractWith UnitPr
       let g : take (length us) (take 8 order) ≡ take (length us) order = take-take (length us) 8 order (few-items s us cs vs v) in
       rw (sub-zero (length us), f, e, eight-front order eight, picked-take (length us) xs (take 8 order), g)
       (sym (picked-take (length us) xs order))
-
-  -- they are eight
-  pub front-within : (xs : List ℕ) {named ys : List ℕ} → named ≡ firstEight order → ys ≡ picked xs named → length us ≤ length ys
-  front-within xs {named} {ys} e f =
-      let l : length (picked xs named) ≡ length named = length-map named _ in
-      let m : length named ≡ 8 = rw e (eight-length order) in
-      let g : length ys ≡ 8 = rw f (l ∙ m) in
-      omega (arith, few-items s us cs vs v)
 
   -- all units
   pub prices-last : namesEach (length us) order ≡ true → dealBy (contractWith UnitPrices s us cs vs) order .last ≡ sum us

@@ -1,12 +1,11 @@
--- A ladder that was found in its record: its contract is valid, and its rises lie in the record. Assumes nothing.
+-- A ladder that was found in its record: its last place, and its rises. Assumes nothing.
 use mathlib.Core.Path.{_≡_, refl, _∙_, ap, subst}
 use mathlib.Core.List.{List, [], _∷_}
 use Prim.Native.Nat.{ℕ, _+_, _≤_, _<_}
 use native.Mathlib.Omega.{arith}
 use lib.ListN.{length}
 use Rattle.area.proofs.Laws.{column-length}
-use Rattle.contract.specs.Valid.{Valid, sum}
-use Rattle.contract.proofs.ParsedValid.{parsed-valid}
+use Rattle.contract.specs.Valid.{sum}
 use Rattle.exchange.specs.Forms.{along}
 use Rattle.record.specs.Find.{LadderFound, ladderIn}
 use Rattle.record.specs.declared.Ladder as found
@@ -33,12 +32,9 @@ module _ (s : List ℕ) (l : found.Ladder) {x : ℕ} where
   pub ladder-within : x ≤ l .count → x ≤ lastPlace (ladderIn s l)
   ladder-within h = omega (arith, column-length 4 s (l .first) 8 (l .count))
 
--- ---- its contract, and its rises
+-- ---- its rises
 
 module _ (s : List ℕ) (l : found.Ladder) (f : LadderFound s l) where
-  pub found-valid : Valid (ladderIn s l)
-  found-valid = parsed-valid s (ladderIn s l) (f .says)
-
   pub lies : Lies (ladderOf l) s
   lies =
       record {

@@ -1,15 +1,14 @@
 -- An order of items as segments: the deal along them is the contract's, and they fit the planner's numbers. Assumes nothing.
-use mathlib.Core.Path.{_≡_, refl, sym, ap, _∙_, fun-ext}
+use mathlib.Core.Path.{_≡_, refl, ap, fun-ext}
 use mathlib.Core.Bool.{true}
 use mathlib.Core.List.{List, [], _∷_, map, map-append}
-use Prim.Native.Nat.{ℕ, zero, suc, _+_, _*_, _≤_, _<_, _^_}
+use Prim.Native.Nat.{ℕ, zero, suc, _+_, _*_, _<_, _^_}
 use native.Mathlib.Nat.{suc-inj}
 use native.Mathlib.Omega.{arith}
-use lib.ListN.{length, replicate, length-map, length-replicate}
+use lib.ListN.{length, replicate, length-map}
 use borrow.Author.Tests.{eq-eqb, lt-ltb}
-use Rattle.contract.specs.Contract.{limit}
 use Rattle.contract.specs.Valid.{total}
-use Rattle.exchange.specs.Forms.{along, ladder, inOrder}
+use Rattle.exchange.specs.Forms.{along, inOrder}
 use Rattle.exchange.specs.Choice.{at, together, sumOver, allItems}
 use Rattle.exchange.specs.declared.Sides.{Sides}
 use Rattle.line.specs.Segments.{spread, dealAlong, allHave, fits, totalOf}

@@ -3,18 +3,16 @@ use mathlib.Core.Path.{_≡_, refl, sym, ap, ap₂, _∙_}
 use mathlib.Core.Bool.{true, false}
 use mathlib.Core.List.{List}
 use Prim.Native.Nat.{ℕ, suc, _+_, _-_, _*_, _≤_, _<_}
-use native.Mathlib.Nat.{zero-add, suc-mul, mul-le-mul-right}
+use native.Mathlib.Nat.{suc-mul, mul-le-mul-right}
 use native.Mathlib.Numerals.{add-one}
 use native.Mathlib.Omega.{arith}
 use lib.Dec.{ltb}
-use lib.ListN.{length, set, take, drop, length-set, length-drop}
-use lib.Seq.{getD-take, getD-drop, length-take-le}
+use lib.ListN.{length, set, length-set}
 use borrow.Author.Tests.{le-leb, lt-leb, lt-ltb, le-ltb}
-use Rattle.area.specs.Entries.{num, numAt}
-use Rattle.area.proofs.Laws.{num-ext, numAt-room, column-none, column-fill}
+use Rattle.area.specs.Entries.{num}
+use Rattle.area.proofs.Laws.{column-none, column-fill}
 use Rattle.contract.specs.Res.{Res, refused, ok}
 use Rattle.contract.specs.Field.{field, ranged}
-use Rattle.contract.specs.Table.{part}
 use Rattle.record.specs.View.Field.{FieldRead, InRange, Ranged}
 use Rattle.record.specs.View.Spaced.{Spaced, Filling}
 use Rattle.record.specs.declared.field.Field.{Field}
@@ -31,14 +29,6 @@ field-ok w s i h = simp (le-leb _ _ h)
 pub field-short : (w : ℕ) (s : List ℕ) (i : ℕ) → length s < i + w → field w s i ≡ refused 1
 unfolding field
 field-short w s i h = simp (lt-leb _ _ h)
-
--- the number in a part of the record is the record's own
-pub part-num : (w : ℕ) (s : List ℕ) (i : ℕ) → i + w ≤ length s → numAt w (part i (i + w) s) 0 ≡ num w s i
-part-num w s i h =
-    let n : i + w - i ≡ w = omega arith in
-    rw n
-    (numAt-room w (take w (drop i s)) 0 (rw (length-take-le w (drop i s) (simp length-drop (omega arith))) (omega arith))
-    ∙ num-ext w (take w (drop i s)) s 0 i (λ k l. rw zero-add (rw (getD-take w (drop i s) k 0 l) (getD-drop i s k 0))))
 
 -- the test that a number is not 0
 pub is-zero : (v : ℕ) → v ≡ 0 → ltb 0 v ≡ false

@@ -37,7 +37,7 @@ pub record LadderFound (s : List ℕ) (l : Ladder) : Type 0 where
 abbrev pub NoLadder : List ℕ → Type 0
 NoLadder s = (k : Contract) → parse s ≡ ok k → k .form ≡ Form.Ladder → ⊥
 
--- the promise of finding a ladder: the record's refusal, a ladder, or that the record is of another form
+-- the promise of finding a ladder: the record's refusal, a ladder, or that the record says none
 abbrev pub Finds : List ℕ → Found → Type 0
 Finds s (Found.Refused e) = parse s ≡ refused (numberOf e)
 Finds s (Found.Ladder l) = LadderFound s l

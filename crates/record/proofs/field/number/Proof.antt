@@ -1,6 +1,6 @@
 use mathlib.Core.Path.{_∙_}
 use denote.Ref.{now}
-use Rattle.record.proofs.Laws.{part-num}
+use Rattle.area.proofs.Laws.{part-num}
 use borrow.Author.Needs.{needs}
 use Rattle.record.proofs.field.number.Statement.{statement}
 use Rattle.record.proofs.field.number.Tie as tie
