@@ -2,7 +2,7 @@
 ghost use mathlib.Core.Path.{_≡_};
 ghost use Rattle.contract.specs.Contract.{contractOf};
 ghost use Rattle.contract.specs.declared.Form.the-variants.{Ladder};
-ghost use Rattle.record.specs.Find.{NoLadder};
+ghost use Rattle.record.specs.Find.{OtherFound};
 ghost use Rattle.planning.specs.Bounds.{boundsIn, boundsOf};
 ghost use Rattle.planning.specs.Answer.{boundedOf};
 ghost use Rattle.planning.specs.Stands.{Stands};
@@ -50,7 +50,7 @@ fn bounds_in(header: Header, costs: &[u32], values: &[u32], place: usize, order:
 
 // The bounds of a place of a record that is no ladder's: its costs and values fit into two areas of 128.
 pub(crate) fn bounds_other(bytes: &[u8], place: usize, order: &[u8]) -> Bounded
-    requires { ⌜ NoLadder (now bytes) ⌝ }
+    requires { ⌜ OtherFound (now bytes) ⌝ }
     ensures { λ r. ⌜ boundedOf r ≡ boundsOf (now (bytes .entry)) place (now (order .entry)) ⌝ }
 {
     let mut costs = [0u32; 128];

@@ -2,7 +2,6 @@
 pub mod AllFacts
 pub mod Read
 -- how planning can end: of every record, along one order, and over the rows of a table
-pub mod Room
 pub mod OrderBytes
 pub mod Planning
 pub mod Tests

@@ -11,14 +11,14 @@ use Rattle.contract.specs.declared.Form.{Form}
 use Rattle.contract.proofs.ParsedValid.{parsed-valid}
 use Rattle.exchange.specs.Deal.{Deal, State}
 use Rattle.planning.specs.Deals.{NoPlan}
-use Rattle.planning.specs.Areas.{Areas}
+use Rattle.planning.specs.Areas.{Areas, Roomy}
 use Rattle.planning.specs.Order.{orderIn}
 use Rattle.planning.specs.Promise.{ahead, Ours, Plans, Success}
 use Rattle.planning.proofs.Outcome.{room}
-use Rattle.cases.specs.Case.{noPlan, Roomy, PlanningEnds}
+use Rattle.planning.proofs.Room.{roomy-ahead}
+use Rattle.cases.specs.Case.{noPlan, PlanningEnds}
 use Rattle.cases.proofs.AllFacts.{Right}
 use Rattle.cases.proofs.OrderBytes.{order-of}
-use Rattle.cases.proofs.Room.{roomy-for}
 
 -- planning repeats the refusal of its record
 pub record-refused : (bytes : List ℕ) (e : ℕ) → parse bytes ≡ refused e → Right bytes (refused e) (noPlan e)
@@ -39,9 +39,7 @@ module _ (bytes : List ℕ) (k : Contract) (read : parse bytes ≡ ok k) where
     by-answer (ok n) before after r s = planned n before after (omega (arith, room 1000 (128 * 256) before r .order, s .order-length)) s
 
     pub planning-ends : PlanningEnds bytes Ends
-    unfolding ahead
-    planning-ends before after answer r p =
-        by-answer answer before after r (rw (read, roomy-for k (parsed-valid bytes k read) before r) at p)
+    planning-ends before after answer r p = by-answer answer before after r (rw (roomy-ahead bytes before r, read) at p)
 
   -- where no plan exists, it finds that
   pub none-planned : NoPlan k → Right bytes (ok k) (noPlan 9)

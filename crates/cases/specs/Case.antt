@@ -3,7 +3,7 @@
 use mathlib.Core.Path.{_≡_}
 use mathlib.Core.Bool.{true}
 use mathlib.Core.List.{List, [], _∷_}
-use Prim.Native.Nat.{ℕ, _*_}
+use Prim.Native.Nat.{ℕ}
 use lib.IntN.{ℤ}
 use lib.ListN.{length, take, replicate}
 use Rattle.contract.specs.Res.{Res, refused, ok}
@@ -11,7 +11,7 @@ use Rattle.contract.specs.Contract.{Contract}
 use Rattle.contract.specs.Parse.{parse}
 use Rattle.exchange.specs.Deal.{State}
 use Rattle.exchange.specs.PlanIn.{planIn}
-use Rattle.planning.specs.Areas.{Areas, hasRoom}
+use Rattle.planning.specs.Areas.{Areas, Roomy}
 use Rattle.planning.specs.Bounds.{boundsOf}
 use Rattle.planning.specs.Check.{holdsCount, aheadOfCheck}
 use Rattle.planning.specs.Check as check
@@ -43,10 +43,6 @@ pub data Question : Type 0 where
 -- order bytes that name no item
 abbrev pub noOrder : List ℕ
 noOrder = replicate 8 0
-
--- areas with room for a plan of every contract: 1,000 units, and the work bytes of 128 rows with 127 units
-abbrev pub Roomy : Areas → Type 0
-Roomy a = hasRoom 1000 (128 * 256) a ≡ true
 
 -- planning, in whatever areas have room, can by its promise end only so
 abbrev pub PlanningEnds : List ℕ → (Res ℕ → Areas → Type 0) → Type 0

@@ -6,7 +6,7 @@ ghost use lib.ListN.{length};
 ghost use Rattle.contract.specs.Res.{ok};
 ghost use Rattle.contract.specs.Contract.{contractOf};
 ghost use Rattle.contract.specs.declared.Form.the-variants.{Ladder, UnitPrices, Table};
-ghost use Rattle.record.specs.Find.{NoLadder};
+ghost use Rattle.record.specs.Find.{OtherFound};
 ghost use Rattle.exchange.specs.PlanIn.{planIn};
 ghost use Rattle.line.specs.Segments.{dealAlong};
 ghost use Rattle.line.specs.CheckPromise as line;
@@ -202,7 +202,7 @@ pub(crate) fn check_other(
     sums: &[u8],
     order: &[u8],
 ) -> Checked
-    requires { ⌜ NoLadder (now bytes) ⌝ }
+    requires { ⌜ OtherFound (now bytes) ⌝ }
     ensures { λ r. ⌜ Checks (aheadOfCheck (now (bytes .entry)) count (now (places .entry)) (now (sums .entry)) (now (order .entry))) (checkedOf r) (now (order .entry)) (planIn count (now (places .entry)) (now (sums .entry))) ⌝ }
 {
     let mut costs = [0u32; 128];

@@ -1,4 +1,7 @@
 // A contract as plain data, and the refusals of its record.
+ghost use mathlib.Core.Path.{_≡_};
+ghost use Prim.Native.Nat.{_<_};
+ghost use Rattle.contract.specs.Contract.{numberOf};
 
 // The three forms of a contract.
 pub enum Form {
@@ -30,4 +33,20 @@ pub enum Refusal {
     Falling,
     Trailing,
     Short,
+}
+
+// The number of a refusal.
+pub fn number_of(e: Refusal) -> u32
+    ensures { λ r. ⌜ (r ≡ numberOf e) × (r < 9) ⌝ }
+{
+    match e {
+        Refusal::Truncated => 1,
+        Refusal::Map => 2,
+        Refusal::Value => 3,
+        Refusal::Limit => 4,
+        Refusal::Range => 5,
+        Refusal::Falling => 6,
+        Refusal::Trailing => 7,
+        Refusal::Short => 8,
+    }
 }

@@ -3,7 +3,7 @@ use mathlib.Core.Path.{_≡_, refl, ap}
 use mathlib.Core.List.{List, [], _∷_, map, _++_}
 use Prim.Native.Nat.{ℕ, zero, suc, _≤_, _<_}
 use native.Mathlib.Omega.{arith}
-use lib.ListN.{length, getD, take, length-map}
+use lib.ListN.{length, getD, take, drop, length-map}
 use lib.Seq.{take-at}
 use Rattle.area.specs.Entries.{entries}
 use Rattle.exchange.specs.Deal.{State, Chain, ends}
@@ -26,6 +26,15 @@ states-map (x ∷ xs) = ap (λ (r : List State). x ∷ r) (states-map xs)
 -- state i
 abbrev stateOf : List ℕ → List ℕ → ℕ → State
 stateOf ps qs i = record { place = getD ps i 0; paid = getD qs i 0 }
+
+states-from : (ps qs : List ℕ) (n i : ℕ) → i < n → n ≤ length ps → n ≤ length qs
+    → drop i (states (take n ps) (take n qs)) ≡ stateOf ps qs i ∷ drop (suc i) (states (take n ps) (take n qs))
+unfolding states
+states-from ps qs zero i h k l = absurd (omega arith)
+states-from [] qs (suc n) i h k l = absurd (omega arith)
+states-from (p ∷ ps) [] (suc n) i h k l = absurd (omega arith)
+states-from (p ∷ ps) (q ∷ qs) (suc n) zero h k l = refl
+states-from (p ∷ ps) (q ∷ qs) (suc n) (suc i) h k l = states-from ps qs n i (omega arith) (omega arith) (omega arith)
 
 states-end : (s : State) (ps qs : List ℕ) (i : ℕ) → i < length ps → i < length qs → ends s (states (take (suc i) ps) (take (suc i) qs)) ≡ stateOf ps qs i
 unfolding states
@@ -75,6 +84,11 @@ module _ (places sums : List ℕ) where
     pub plan-length : length (planIn n places sums) ≡ n
     unfolding planIn
     plan-length = states-length (entries 2 places) (entries 4 sums) n h k
+
+    -- from entry i on
+    pub plan-from : (i : ℕ) → i < n → drop i (planIn n places sums) ≡ entryIn i ∷ drop (suc i) (planIn n places sums)
+    unfolding planIn
+    plan-from i l = states-from (entries 2 places) (entries 4 sums) n i l h k
 
     -- each entry of a chain is related to where the entries before it end
     pub plan-step : (R : State → State → Type 0) (s : State) → Chain R s (planIn n places sums)

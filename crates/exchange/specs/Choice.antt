@@ -69,11 +69,11 @@ placed e (suc k) =
     let j = best e done (length (e .units)) in
     cond (ltb j (length (e .units))) (done ++ (j ∷ [])) done
 
--- "items whose unit cost is at least the unit value come first"
+-- W2: "items whose unit cost is at least the unit value come first"
 abbrev pub comesFirst : List ℕ → List ℕ → ℕ → Bool
 comesFirst costs values j = leb (at values j) (at costs j)
 
--- from the first place on: "again and again the one with the greatest cost less value of a unit, among those whose unit value is at most
+-- from the first place on, W2: "again and again the one with the greatest cost less value of a unit, among those whose unit value is at most
 -- upper less lower there". The slack of place 0 is vd(L) + cs + cd − vs(L)
 abbrev pub front : Sides → List ℕ → List ℕ → List ℕ → End
 front p units costs values =
@@ -86,7 +86,7 @@ front p units costs values =
       taken = sumOver units (at costs) (allItems (length units));
     }
 
--- "The others fill the places from the last backwards: the greatest value less cost of a unit, among those whose unit cost is at most upper
+-- W2: "The others fill the places from the last backwards: the greatest value less cost of a unit, among those whose unit cost is at most upper
 -- less lower after it". The slack of the last place is cs + cd
 abbrev pub back : Sides → List ℕ → List ℕ → List ℕ → End
 back p units costs values =

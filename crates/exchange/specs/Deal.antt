@@ -32,7 +32,8 @@ pub record Safe (d : Deal) (x p : ℕ) : Type 0 where
   pub high : pos p ≤ℤ d .upper x
   pub within : p ≤ d .price
 
--- "A step goes from (a, p) to (b, q): b holds at least a's units of every item, q ≥ p, and all four states are safe"
+-- "A step goes from (a, p) to (b, q): b holds at least a's units of every item, q ≥ p, and all four states ..
+-- are safe"
 pub record Step (d : Deal) (s t : State) : Type 0 where
   pub in-deal : t .place ≤ d .last
   pub delivers : T (d .holds (s .place) (t .place))

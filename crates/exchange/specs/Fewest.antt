@@ -23,7 +23,7 @@ Earlier [] ys = Unit {0}
 Earlier (x ∷ xs) [] = ⊥
 Earlier (x ∷ xs) (y ∷ ys) = (x .place < y .place) ⊎ ((x .place ≡ y .place) × Earlier xs ys)
 
--- "of the fewest-step plans the one whose list of rows is earliest, compared from the first step"
+-- W2: "of the fewest-step plans the one whose list of rows is earliest, compared from the first step"
 pub record Earliest (d : Deal) (xs : List State) : Type 0 where
   pub fewest : Fewest d xs
   pub earliest : (ys : List State) → Plan d ys → length ys ≡ length xs → Earlier xs ys

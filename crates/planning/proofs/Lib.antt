@@ -8,6 +8,7 @@ pub mod AlongOrder
 -- from what the planners below answer to the promise
 pub mod LinePlan
 pub mod Outcome
+pub mod Room
 pub mod LadderFound
 pub mod LadderPlan
 pub mod PricesPlan

@@ -16,7 +16,8 @@ use Rattle.contract.proofs.Refusals.{refusal-number}
 use Rattle.record.specs.Promise.{Answer, Reads, replyOf}
 use Rattle.record.specs.declared.Reply.{Reply}
 use Rattle.record.specs.declared.Outcome.{Outcome}
-use Rattle.record.specs.Find.{NoLadder}
+use Rattle.record.specs.Find.{OtherFound}
+use Rattle.record.proofs.FindLaws.{other-none}
 use Rattle.planning.specs.Stands.{Stands}
 
 -- no refusal has number 0
@@ -30,12 +31,12 @@ some-number Falling = omega arith
 some-number Trailing = omega arith
 some-number Short = omega arith
 
-module _ (bytes costs values : List ℕ) (other : NoLadder bytes) (many-costs : length costs ≡ 128) (many-values : length values ≡ 128)
+module _ (bytes costs values : List ℕ) (other : OtherFound bytes) (many-costs : length costs ≡ 128) (many-values : length values ≡ 128)
     (r : Outcome) (costs′ values′ : List ℕ) (h : Reads (reading bytes (length costs) (length values)) costs values r costs′ values′) where
   -- what the record says is what was read
   said : Reads (parse bytes) costs values r costs′ values′
   said =
-      let e : reading bytes (length costs) (length values) ≡ parse bytes = rw (many-costs, many-values) (reading-all bytes other) in
+      let e : reading bytes (length costs) (length values) ≡ parse bytes = rw (many-costs, many-values) (reading-all bytes (other-none bytes other)) in
       subst (λ (x : Res Contract). Reads x costs values r costs′ values′) e h
 
   -- a refusal is the record's

@@ -1,5 +1,6 @@
 -- The byte areas that are lent for a plan.
-use mathlib.Core.Bool.{Bool, _&&_}
+use mathlib.Core.Path.{_≡_}
+use mathlib.Core.Bool.{Bool, true, _&&_}
 use mathlib.Core.List.{List}
 use Prim.Native.Nat.{ℕ, _+_, _*_}
 use lib.Dec.{leb}
@@ -28,7 +29,7 @@ workFor Ladder units u = 0
 workFor UnitPrices units u = 0
 workFor Table units u = rowsOf units * (2 * u + 2)
 
--- whether there is room for u units and this much work: "2U + 1 places and 2U + 1 sums, eight order bytes"
+-- whether there is room for u units and this much work: "2U + 1 places (16 bits) and 2U + 1 sums (32 bits), eight order bytes"
 unfoldable pub hasRoom : ℕ → ℕ → Areas → Bool
 hasRoom u bytes a =
     leb (2 * u + 1) (length (entries 2 (a .places))) && leb (2 * u + 1) (length (entries 4 (a .sums))) && leb 8 (length (a .order))
@@ -37,6 +38,10 @@ hasRoom u bytes a =
 -- whether the areas have room for a plan of a contract
 abbrev pub roomFor : Contract → Areas → Bool
 roomFor k a = hasRoom (unitCount k) (workFor (k .form) (k .units) (unitCount k)) a
+
+-- areas with room for a plan of every contract: 1,000 units, and the work bytes of 128 rows with 127 units
+abbrev pub Roomy : Areas → Type 0
+Roomy a = hasRoom 1000 (128 * 256) a ≡ true
 
 -- the areas with the work area all zero
 abbrev pub workCleared : Areas → Areas

@@ -42,7 +42,7 @@ abbrev pub lastPlace : Contract → ℕ
 lastPlace k = lastFor (k .form) (k .units) (k .costs)
 
 -- the orders of each form, with items counted from 0: "A ladder has its own order only. For unit prices every order of the units counts,
--- those of one item together or not. In a table places are rows"; the empty list stands where there is no order to name
+-- those of one item together or not .. In a table places are rows"; the empty list stands where there is no order to name
 abbrev pub OrderFor : Form → List ℕ → List ℕ → Type 0
 OrderFor Ladder units σ = σ ≡ []
 OrderFor UnitPrices units σ = Order units σ

@@ -2,7 +2,7 @@
 ghost use mathlib.Core.Path.{_≡_};
 ghost use Rattle.contract.specs.Contract.{contractOf};
 ghost use Rattle.contract.specs.declared.Form.the-variants.{Ladder};
-ghost use Rattle.record.specs.Find.{NoLadder};
+ghost use Rattle.record.specs.Find.{OtherFound};
 ghost use Rattle.planning.specs.Answer.{answerOf};
 ghost use Rattle.planning.specs.Areas.{areas};
 ghost use Rattle.planning.specs.Promise.{ahead, Plans};
@@ -71,7 +71,7 @@ pub(crate) fn plan_other(
     order: &mut [u8],
     work: &mut [u8],
 ) -> Planned
-    requires { ⌜ NoLadder (now bytes) ⌝ }
+    requires { ⌜ OtherFound (now bytes) ⌝ }
     ensures { λ r. ⌜ Plans (ahead (now (bytes .entry)) (areas (now (places .entry)) (now (sums .entry)) (now (order .entry)) (now (work .entry)))) (answerOf r) (areas (now (places .entry)) (now (sums .entry)) (now (order .entry)) (now (work .entry))) (areas (now (places .exit)) (now (sums .exit)) (now (order .exit)) (now (work .exit))) ⌝ }
 {
     let mut costs = [0u32; 128];

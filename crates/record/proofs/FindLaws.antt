@@ -1,5 +1,5 @@
 -- Laws of finding a ladder in its record. Assumes nothing.
-use mathlib.Core.Path.{_≡_, sym, ap, subst, _∙_}
+use mathlib.Core.Path.{_≡_, refl, sym, ap, subst, _∙_}
 use mathlib.Core.Bool.{Bool, true, false}
 use mathlib.Core.List.{List}
 use Prim.Native.Nat.{ℕ, zero, suc, _+_}
@@ -10,7 +10,7 @@ use lib.ListN.{length}
 use Rattle.area.specs.Entries.{column}
 use Rattle.area.proofs.Laws.{column-zero, column-suc}
 use Rattle.grid.specs.Rows.{rising}
-use Rattle.contract.specs.Res.{refused, ok, bind}
+use Rattle.contract.specs.Res.{Res, refused, ok, bind}
 use Rattle.contract.specs.Contract.{Contract}
 use Rattle.contract.specs.Field.{Head, headAt}
 use Rattle.contract.specs.Parse.{parse, bodyAt}
@@ -21,7 +21,7 @@ use Rattle.contract.specs.Valid.{sum}
 use Rattle.contract.specs.declared.Form.{Form}
 use Rattle.contract.proofs.ParsedValid.ResLaws.{ok-inv, bind-inv, test-inv, Gives, passed}
 use Rattle.contract.proofs.ParsedValid.FieldLaws.{amount-gives}
-use Rattle.record.specs.Find.{LadderFound}
+use Rattle.record.specs.Find.{LadderFound, soughtAt, sought, OtherFound}
 use Rattle.record.specs.View.Head.{LadderHead}
 use Rattle.record.specs.View.Segments.{Found, found, ToEnd}
 use Rattle.record.proofs.AnswerLaws.{parse-form}
@@ -75,8 +75,9 @@ module _ {s : List ℕ} {h : Head} (g : LadderHead s h) where
   body : parse s ≡ bind (found false s (h .next)) (λ r. ok (segmentContract false s h (r .count) (r .first)))
   body = parse-form s h Form.Ladder (g .said) (g .read .form-is) ∙ body-found false s h
 
-  pub ladder-refused : {n : ℕ} → found false s (h .next) ≡ refused n → parse s ≡ refused n
-  ladder-refused e = body ∙ rw e
+  pub ladder-refused : {n : ℕ} → found false s (h .next) ≡ refused n → sought s ≡ refused n
+  unfolding sought
+  ladder-refused e = rw (g .said, g .read .form-is, body-found, e)
 
   pub ladder-found : {r : Found} → found false s (h .next) ≡ ok r → ToEnd false s r
       → LadderFound s (record { price = h .price; supplier = h .supplier; buyer = h .buyer; first = r .first; count = r .count; cost = r .cost; value = r .value })
@@ -115,8 +116,60 @@ body-form Form.UnitPrices s h k e = segments-form true s h k e
 body-form Form.Table s h k e = table-form s h k e
 
 -- a record whose head is of another form says no ladder
-pub no-ladder : (s : List ℕ) (h : Head) (f : Form) → headAt s ≡ ok h → h .form ≡ f → (formBits f ≡ 1 → ⊥)
-    → (k : Contract) → parse s ≡ ok k → k .form ≡ Form.Ladder → ⊥
-no-ladder s h f e q other k p l =
-    let b : k .form ≡ h .form = body-form f s h k (sym (parse-form s h f e q) ∙ p) in
-    other (ap formBits (sym q ∙ sym b ∙ l))
+no-ladder : (s : List ℕ) (h : Head) → headAt s ≡ ok h → (h .form ≡ Form.Ladder → ⊥) → (k : Contract) → parse s ≡ ok k → k .form ≡ Form.Ladder → ⊥
+no-ladder s h e other k p l = other (sym (body-form (h .form) s h k (sym (parse-form s h (h .form) e refl) ∙ p)) ∙ l)
+
+-- finding hands on the head that was read
+sought-head : (f : Form) (s : List ℕ) (h : Head) {g : Head} → soughtAt f s h ≡ ok g → h ≡ g
+sought-head Form.Ladder s h e = let (_, _, e₁) = bind-inv (segmentBody false s h) _ e in ok-inv e₁
+sought-head Form.UnitPrices s h e = ok-inv e
+sought-head Form.Table s h e = ok-inv e
+
+pub other-none : (s : List ℕ) → OtherFound s → (k : Contract) → parse s ≡ ok k → k .form ≡ Form.Ladder → ⊥
+unfolding sought
+other-none s o =
+    let (h, eh, e) = bind-inv (headAt s) _ (o .says) in
+    no-ladder s (o .head) (eh ∙ ap ok (sought-head (h .form) s h e)) (o .other)
+
+-- a head of another form is all that finding reads
+pub other-found : (s : List ℕ) (h : Head) (f : Form) → headAt s ≡ ok h → h .form ≡ f → (formBits f ≡ 1 → ⊥) → OtherFound s
+unfolding sought
+other-found s h f e q other =
+    record { head = h; says = rw e (ap (λ (g : Form). soughtAt g s h) q ∙ go f other); other = λ l. other (ap formBits (sym q ∙ l)) }
+  where
+    go : (f : Form) → (formBits f ≡ 1 → ⊥) → soughtAt f s h ≡ ok h
+    go Form.Ladder n = absurd (n refl)
+    go Form.UnitPrices n = refl
+    go Form.Table n = refl
+
+-- ---- refusals
+
+pub refused-inv : {A : Type 0} {m n : ℕ} → _≡_ {A = Res A} (refused m) (refused n) → m ≡ n
+refused-inv e = cc
+
+-- no answer is a refusal
+pub never : {A X : Type 0} {n : ℕ} {a : A} → ok a ≡ refused n → X
+never e = let z : _≡_ {A = ℕ} 0 1 = cc in absurd (omega arith)
+
+-- a head that is refused is all that finding reads
+pub head-refused : (s : List ℕ) {n : ℕ} → headAt s ≡ refused n → sought s ≡ refused n
+unfolding sought
+head-refused s e = rw e
+
+-- what finding refuses, the record's reader refuses
+pub sought-refused : (s : List ℕ) {n : ℕ} → sought s ≡ refused n → parse s ≡ refused n
+unfolding sought parse
+sought-refused s {n} e = go (headAt s) e
+  where
+    ladder : (h : Head) (r : Res Contract) → bind r (λ k. ok h) ≡ refused n → r ≡ refused n
+    ladder h (refused m) e = ap refused (refused-inv e)
+    ladder h (ok k) e = never e
+
+    at : (f : Form) (h : Head) → soughtAt f s h ≡ refused n → bodyAt f s h ≡ refused n
+    at Form.Ladder h e = ladder h (segmentBody false s h) e
+    at Form.UnitPrices h e = never e
+    at Form.Table h e = never e
+
+    go : (r : Res Head) → bind r (λ h. soughtAt (h .form) s h) ≡ refused n → bind r (λ h. bodyAt (h .form) s h) ≡ refused n
+    go (refused m) e = ap refused (refused-inv e)
+    go (ok h) e = at (h .form) h e

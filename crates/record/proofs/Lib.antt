@@ -4,6 +4,7 @@ pub mod AnswerLaws
 pub mod SegmentLaws
 pub mod LadderLaws
 pub mod FindLaws
+pub mod FindOne
 pub mod TableLaws
 pub mod CellLaws
 -- the writer; the laws of amounts within the limit serve both

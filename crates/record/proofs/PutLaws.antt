@@ -1,66 +1,28 @@
--- Laws of stores one after the other, and of the lengths of a record's parts. Assumes nothing.
+-- Laws of a record's parts as they are stored: their lengths, and what is left after each. Assumes nothing.
 use mathlib.Core.Path.{_≡_, refl, sym, ap, _∙_}
 use mathlib.Core.Logic.{_⊎_, inl, inr}
 use mathlib.Core.Bool.{Bool, true, false, cond}
 use mathlib.Core.List.{List, [], _∷_, _++_, flatMap, append-assoc, append-nil}
 use Prim.Native.Nat.{ℕ, zero, suc, _+_, _*_, _≤_, _<_}
-use native.Mathlib.Nat.{add-zero, add-assoc, le-of-suc-le-suc}
+use native.Mathlib.Nat.{le-of-suc-le-suc}
 use native.Mathlib.Numerals.{add-one}
 use native.Mathlib.Decide.{le-ind}
 use native.Mathlib.Omega.{arith}
 use borrow.Author.Tests.{lt-ltb, le-ltb, ltb-true, ltb-false}
 use lib.Dec.{ltb}
 use lib.ListN.{length, getD, drop, replicate, length-append, drop-of-length-le}
-use lib.Seq.{sets, length-sets, drop-cons}
+use lib.Seq.{drop-cons}
 use Rattle.area.specs.Entries.{digits, upTo}
-use Rattle.area.proofs.Laws.{sets-append, digits-length, upTo-length, upTo-at}
+use Rattle.area.proofs.Laws.{digits-length, upTo-length, upTo-at}
+use Rattle.area.proofs.PutLaws.{Left, left-room, room-second}
 use Rattle.grid.specs.Map.{stands, standing, standingCells}
 use Rattle.grid.proofs.Restore.{cells-length as standing-length}
 use Rattle.contract.specs.Segments.{size}
 use Rattle.contract.specs.Serialize.{moneyBytes, segmentBytes}
 use Rattle.contract.specs.declared.Header.{Header}
 use Rattle.contract.proofs.Lengths.{segments-length, digits-all-length}
-use Rattle.record.specs.View.Write.{countSize, headBytes, each, unitsByte, Run, runBytes, Puts}
-
--- ---- stores one after the other
-
-pub puts-none : (s : List ℕ) (i : ℕ) → Puts [] s i i s
-puts-none s i = record { stores = refl; next = sym (add-zero i) }
-
-pub puts-then : {a b s t u : List ℕ} {i j k : ℕ} → Puts a s i j t → Puts b t j k u → Puts (a ++ b) s i k u
-puts-then {a} {b} {s} {i = i} p q =
-    record { stores = q .stores ∙ rw (p .stores, p .next) (sets-append s i a b); next = q .next ∙ rw (p .next, length-append) (add-assoc i (length a) (length b)) }
-
-pub puts-length : {a s t : List ℕ} {i j : ℕ} → Puts a s i j t → length t ≡ length s
-puts-length {a} {s} {i = i} p = rw (p .stores) (length-sets s i a)
-
--- room for both is room for the second after the first
-pub room-second : (b : List ℕ) {a s t : List ℕ} {i j : ℕ} → Puts a s i j t → i + length (a ++ b) ≤ length s → j + length b ≤ length t
-room-second b {a} p h = omega (arith, puts-length p, p .next, length-append a b)
-
--- storing what is left makes what storing all made
-pub record Left (all before : List ℕ) (i : ℕ) (rest after : List ℕ) (j : ℕ) : Type 0 where
-  pub same : sets after j rest ≡ sets before i all
-  pub end : j + length rest ≡ i + length all
-  pub kept : length after ≡ length before
-
-pub left-all : (all s : List ℕ) (i : ℕ) → Left all s i all s i
-left-all all s i = record { same = refl; end = refl; kept = refl }
-
-pub left-turn : (a rest′ : List ℕ) {all s rest t u : List ℕ} {i j k : ℕ} → Left all s i rest t j → rest ≡ a ++ rest′ → Puts a t j k u → Left all s i rest′ u k
-left-turn a rest′ {t = t} {j = j} l e p =
-    record {
-      same = rw (p .stores, p .next, sets-append, ← e) (l .same);
-      end = omega (arith, l .end, p .next, length-append a rest′, ap length e);
-      kept = puts-length p ∙ l .kept;
-    }
-
--- room for all is room for what is stored next
-pub left-room : (a rest′ : List ℕ) {all s rest t : List ℕ} {i j : ℕ} → Left all s i rest t j → rest ≡ a ++ rest′ → i + length all ≤ length s → j + length a ≤ length t
-left-room a rest′ l e h = omega (arith, l .end, l .kept, ap length e, length-append a rest′)
-
-pub left-done : {all s rest t : List ℕ} {i j : ℕ} → Left all s i rest t j → rest ≡ [] → Puts all s i j t
-left-done {j = j} l e = record { stores = rw e at (l .same); next = sym (add-zero j) ∙ rw e at (l .end) }
+use Rattle.area.specs.Puts.{Puts}
+use Rattle.record.specs.View.Write.{countSize, headBytes, each, unitsByte, Run, runBytes}
 
 -- ---- the head
 

@@ -24,7 +24,8 @@ use Rattle.contract.specs.declared.Header.{Header}
 use Rattle.contract.specs.declared.Refusal.{Refusal}
 use Rattle.contract.specs.declared.Refusal.the-variants.{Short}
 use Rattle.contract.proofs.Lengths.{digits-all-length, bits-are, grid-length}
-use Rattle.record.specs.View.Write.{counted, itemsIn, contractWith, Counted, Shaped, Segmented, Tabled, headBytes, Run, runBytes, gridWith, Mapped, Puts, Replies}
+use Rattle.area.specs.Puts.{Puts}
+use Rattle.record.specs.View.Write.{counted, itemsIn, contractWith, Counted, Shaped, Segmented, Tabled, headBytes, Run, runBytes, gridWith, Mapped, Replies}
 use Rattle.record.specs.declared.Written.{Written}
 use Rattle.record.proofs.PutLaws.{each-none, each-stated, run-length}
 use Rattle.record.proofs.CountLaws.{items-length}

@@ -1,12 +1,15 @@
 -- What finding a ladder promises.
 use mathlib.Core.Path.{_≡_}
+use mathlib.Core.Bool.{false}
 use mathlib.Core.List.{List, []}
 use Prim.Native.Nat.{ℕ, _+_, _*_, _≤_}
 use lib.ListN.{length}
 use Rattle.area.specs.Entries.{column}
-use Rattle.contract.specs.Res.{refused, ok}
+use Rattle.contract.specs.Res.{Res, refused, ok, bind}
 use Rattle.contract.specs.Contract.{Contract, numberOf}
+use Rattle.contract.specs.Field.{Head, headAt}
 use Rattle.contract.specs.Parse.{parse}
+use Rattle.contract.specs.Segments.{segmentBody}
 use Rattle.contract.specs.Valid.{sum}
 use Rattle.contract.specs.declared.Form.{Form}
 use Rattle.record.specs.declared.Ladder.{Ladder}
@@ -33,12 +36,24 @@ pub record LadderFound (s : List ℕ) (l : Ladder) : Type 0 where
   pub cost-is : l .cost ≡ sum (column 4 s (l .first) 8 (l .count))
   pub value-is : l .value ≡ sum (column 4 s (l .first + 4) 8 (l .count))
 
--- a record that says no ladder
-abbrev pub NoLadder : List ℕ → Type 0
-NoLadder s = (k : Contract) → parse s ≡ ok k → k .form ≡ Form.Ladder → ⊥
+-- what finding reads: the head and, where it names a ladder, what follows it. The head, or the first refusal as far as that goes
+abbrev pub soughtAt : Form → List ℕ → Head → Res Head
+soughtAt Form.Ladder s h = bind (segmentBody false s h) (λ k. ok h)
+soughtAt Form.UnitPrices s h = ok h
+soughtAt Form.Table s h = ok h
 
--- the promise of finding a ladder: the record's refusal, a ladder, or that the record says none
+-- the same from the first byte on
+unfoldable pub sought : List ℕ → Res Head
+sought s = bind (headAt s) (λ h. soughtAt (h .form) s h)
+
+-- another form, which the head names
+pub record OtherFound (s : List ℕ) : Type 0 where
+  pub head : Head
+  pub says : sought s ≡ ok head
+  pub other : head .form ≡ Form.Ladder → ⊥
+
+-- the promise of finding a ladder: the refusal as far as it reads, a ladder, or another form. No two answers keep it (`found-one`)
 abbrev pub Finds : List ℕ → Found → Type 0
-Finds s (Found.Refused e) = parse s ≡ refused (numberOf e)
+Finds s (Found.Refused e) = sought s ≡ refused (numberOf e)
 Finds s (Found.Ladder l) = LadderFound s l
-Finds s Found.Other = NoLadder s
+Finds s Found.Other = OtherFound s

@@ -2,6 +2,7 @@
 use denote.Ref.{now}
 use mathlib.Core.Path.{subst}
 use Rattle.record.specs.Find.{Finds}
+use Rattle.record.proofs.FindLaws.{sought-refused}
 use Rattle.bounds.proofs.BoundsLaws.{bounds-refused, bounds-read}
 use borrow.Author.Needs.{needs}
 use Rattle.bounds.proofs.bounds.Statement.{statement}
@@ -26,7 +27,7 @@ bounds-other-requires : tie.Need-bounds-other-requires
 bounds-other-requires c κs = subst (Finds (now (c .before .before .before .before .before .args .bytes))) (c .enum-told .given .1) (c .before .before .find .ensures)
 
 returns : tie.Need-returns
-returns c = bounds-refused _ _ _ (subst (Finds (now (c .before .before .before .before .before .before .args .bytes))) (c .before .e .given .1) (c .before .before .before .find .ensures))
+returns c = bounds-refused _ _ _ (sought-refused _ (subst (Finds (now (c .before .before .before .before .before .before .args .bytes))) (c .before .e .given .1) (c .before .before .before .find .ensures)))
 
 returns-2 : tie.Need-returns-2
 returns-2 c = bounds-read _ _ _ ((subst (Finds (now (c .before .before .before .before .before .before .before .args .bytes))) (c .before .before .l .given .1) (c .before .before .before .before .find .ensures)) .says) (c .bounds-ladder .ensures)

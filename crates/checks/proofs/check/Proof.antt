@@ -3,6 +3,7 @@ use denote.Ref.{now}
 use mathlib.Core.Path.{subst}
 use Rattle.exchange.specs.PlanIn.{planIn}
 use Rattle.record.specs.Find.{Finds}
+use Rattle.record.proofs.FindLaws.{sought-refused}
 use Rattle.checks.proofs.CheckLaws.{check-refused, check-read}
 use borrow.Author.Needs.{needs}
 use Rattle.checks.proofs.check.Statement.{statement}
@@ -27,7 +28,7 @@ check-other-requires : tie.Need-check-other-requires
 check-other-requires c κs = subst (Finds (now (c .before .before .before .before .before .before .before .args .bytes))) (c .enum-told .given .1) (c .before .before .find .ensures)
 
 returns : tie.Need-returns
-returns c = check-refused _ _ _ _ _ _ (subst (Finds (now (c .before .before .before .before .before .before .before .before .args .bytes))) (c .before .e .given .1) (c .before .before .before .find .ensures))
+returns c = check-refused _ _ _ _ _ _ (sought-refused _ (subst (Finds (now (c .before .before .before .before .before .before .before .before .args .bytes))) (c .before .e .given .1) (c .before .before .before .find .ensures)))
 
 returns-2 : tie.Need-returns-2
 returns-2 c = check-read _ (c .before .before .before .before .before .before .before .before .before .args .count) (now (c .before .before .before .before .before .before .before .before .before .args .places)) (now (c .before .before .before .before .before .before .before .before .before .args .sums)) (now (c .before .before .before .before .before .before .before .before .before .args .order)) (planIn (c .before .before .before .before .before .before .before .before .before .args .count) (now (c .before .before .before .before .before .before .before .before .before .args .places)) (now (c .before .before .before .before .before .before .before .before .before .args .sums))) ((subst (Finds (now (c .before .before .before .before .before .before .before .before .before .args .bytes))) (c .before .before .l .given .1) (c .before .before .before .before .find .ensures)) .says) _ (c .check-ladder .ensures)

@@ -1,6 +1,7 @@
 use denote.Ref.{now}
 use mathlib.Core.Path.{subst}
 use Rattle.record.specs.Find.{Finds}
+use Rattle.record.proofs.FindLaws.{sought-refused}
 use Rattle.plans.proofs.PlanLaws.{refused-plans, accepted-plans}
 use borrow.Author.Needs.{needs}
 use Rattle.plans.proofs.plan.Statement.{statement}
@@ -25,7 +26,7 @@ plan-other-requires : tie.Need-plan-other-requires
 plan-other-requires c κs = subst (Finds (now (c .before .before .before .before .before .before .before .before .before .before .before .before .args .bytes))) (c .before .before .before .before .enum-told .given .1) (c .before .before .before .before .before .before .find .ensures)
 
 returns : tie.Need-returns
-returns c = refused-plans (now (c .before .before .before .before .before .before .before .before .before .args .bytes)) _ _ (subst (Finds (now (c .before .before .before .before .before .before .before .before .before .args .bytes))) (c .before .e .given .1) (c .before .before .before .find .ensures))
+returns c = refused-plans (now (c .before .before .before .before .before .before .before .before .before .args .bytes)) _ _ (sought-refused _ (subst (Finds (now (c .before .before .before .before .before .before .before .before .before .args .bytes))) (c .before .e .given .1) (c .before .before .before .find .ensures)))
 
 same-length : tie.Need-same-length
 same-length c = search needs

@@ -1,10 +1,9 @@
 use native.Mathlib.Omega.{arith}
 use denote.Ref.{now}
-use Rattle.contract.specs.Parse.{parse}
 use Rattle.contract.specs.declared.Form.the-variants.{UnitPrices, Table}
 use Rattle.record.specs.View.Head.{viewHead, headOf}
 use Rattle.record.proofs.Laws.{asked}
-use Rattle.record.proofs.FindLaws.{no-ladder}
+use Rattle.record.proofs.FindLaws.{head-refused, other-found}
 use borrow.Author.Needs.{needs}
 use Rattle.record.proofs.find.Statement.{statement}
 use Rattle.record.proofs.find.Tie as tie
@@ -35,17 +34,16 @@ enum-told-3 : tie.Need-enum-told-3
 enum-told-3 c = search needs
 
 returns : tie.Need-returns
-unfolding parse
-returns c = simp (asked viewHead (c .before .before .before .head-at .ensures .meets) (c .before .e .given .1))
+returns c = head-refused _ (asked viewHead (c .before .before .before .head-at .ensures .meets) (c .before .e .given .1))
 
 returns-2 : tie.Need-returns-2
 returns-2 c = search needs
 
 returns-3 : tie.Need-returns-3
-returns-3 c = no-ladder (now (c .before .before .before .before .before .before .before .args .bytes)) (headOf (c .before .before .before .h .given .0 .0)) UnitPrices (asked viewHead (c .before .before .before .before .before .head-at .ensures .meets) (c .before .before .before .h .given .1)) (c .enum-told2 .given .1) (λ e. absurd (omega arith))
+returns-3 c = other-found (now (c .before .before .before .before .before .before .before .args .bytes)) (headOf (c .before .before .before .h .given .0 .0)) UnitPrices (asked viewHead (c .before .before .before .before .before .head-at .ensures .meets) (c .before .before .before .h .given .1)) (c .enum-told2 .given .1) (λ e. absurd (omega arith))
 
 returns-4 : tie.Need-returns-4
-returns-4 c = no-ladder (now (c .before .before .before .before .before .before .before .args .bytes)) (headOf (c .before .before .before .h .given .0 .0)) Table (asked viewHead (c .before .before .before .before .before .head-at .ensures .meets) (c .before .before .before .h .given .1)) (c .enum-told3 .given .1) (λ e. absurd (omega arith))
+returns-4 c = other-found (now (c .before .before .before .before .before .before .before .args .bytes)) (headOf (c .before .before .before .h .given .0 .0)) Table (asked viewHead (c .before .before .before .before .before .head-at .ensures .meets) (c .before .before .before .h .given .1)) (c .enum-told3 .given .1) (λ e. absurd (omega arith))
 
 pub find-spec : {M : Type 1} → statement M
 find-spec =

@@ -3,10 +3,9 @@ use mathlib.Core.Path.{_≡_}
 use mathlib.Core.Logic.{_⊎_}
 use mathlib.Core.Bool.{true, cond}
 use mathlib.Core.List.{List, [], _++_, flatMap}
-use Prim.Native.Nat.{ℕ, _+_}
+use Prim.Native.Nat.{ℕ}
 use lib.Dec.{ltb}
 use lib.ListN.{length, getD}
-use lib.Seq.{sets}
 use Rattle.area.specs.Entries.{digits, upTo}
 use Rattle.grid.specs.Rows.{rising}
 use Rattle.grid.specs.Map.{mapSize, standingCells}
@@ -102,11 +101,6 @@ pub record Mapped (h : Header) (us costMap cs valueMap vs : List ℕ) : Type 0 w
   pub value-map : valueMap ≡ rowMap us vs (length vs) (mapSize (length vs))
   pub costs-rise : rising us cs (length cs) ≡ true
   pub values-rise : rising us vs (length vs) ≡ true
-
--- the bytes are stored from index i on, up to index j
-pub record Puts (bytes before : List ℕ) (i j : ℕ) (after : List ℕ) : Type 0 where
-  pub stores : after ≡ sets before i bytes
-  pub next : j ≡ i + length bytes
 
 -- the reply and the output area for what is to be written
 pub record Replies (said : Res (List ℕ)) (out : List ℕ) (r : Written) (out′ : List ℕ) : Type 0 where

@@ -2,6 +2,7 @@
 use mathlib.Core.Path.{refl}
 use Rattle.planning.proofs.ReadLaws.{read-refused, read-accepted, read-stands}
 use Rattle.bounds.proofs.BoundsLaws.{bounds-refused, bounds-read}
+use Rattle.record.proofs.FindLaws.{other-none}
 use borrow.Author.Needs.{needs}
 use Rattle.bounds.proofs.by_form.bounds_other.Statement.{statement}
 use Rattle.bounds.proofs.by_form.bounds_other.Tie as tie
@@ -28,7 +29,7 @@ slice-aggregate-bounds-in-2 : tie.Need-slice-aggregate-bounds-in-2
 slice-aggregate-bounds-in-2 c = search needs
 
 bounds-in-requires : tie.Need-bounds-in-requires
-bounds-in-requires c κs = (read-stands _ _ _ (c .before .before .before .before .before .before .before .before .before .before .before .pre) refl refl _ _ _ (c .before .before .before .before .before .before .read .ensures) (c .before .before .enum-told .given .1), λ q. (c .before .before .before .before .before .before .before .before .before .before .before .pre) _ (read-accepted _ _ _ (c .before .before .before .before .before .before .before .before .before .before .before .pre) refl refl _ _ _ (c .before .before .before .before .before .before .read .ensures) (c .before .before .enum-told .given .1)) q)
+bounds-in-requires c κs = (read-stands _ _ _ (c .before .before .before .before .before .before .before .before .before .before .before .pre) refl refl _ _ _ (c .before .before .before .before .before .before .read .ensures) (c .before .before .enum-told .given .1), λ q. other-none _ (c .before .before .before .before .before .before .before .before .before .before .before .pre) _ (read-accepted _ _ _ (c .before .before .before .before .before .before .before .before .before .before .before .pre) refl refl _ _ _ (c .before .before .before .before .before .before .read .ensures) (c .before .before .enum-told .given .1)) q)
 
 returns : tie.Need-returns
 returns c = bounds-refused _ _ _ (read-refused _ _ _ (c .before .before .before .before .before .before .before .before .before .before .pre) refl refl _ _ _ (c .before .before .before .before .before .read .ensures) _ (c .before .reply .given .1))

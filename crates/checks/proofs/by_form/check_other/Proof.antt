@@ -4,6 +4,7 @@ use mathlib.Core.Path.{refl}
 use Rattle.exchange.specs.PlanIn.{planIn}
 use Rattle.planning.proofs.ReadLaws.{read-refused, read-accepted, read-stands}
 use Rattle.checks.proofs.CheckLaws.{check-refused, check-read}
+use Rattle.record.proofs.FindLaws.{other-none}
 use borrow.Author.Needs.{needs}
 use Rattle.checks.proofs.by_form.check_other.Statement.{statement}
 use Rattle.checks.proofs.by_form.check_other.Tie as tie
@@ -30,7 +31,7 @@ slice-aggregate-check-contract-2 : tie.Need-slice-aggregate-check-contract-2
 slice-aggregate-check-contract-2 c = search needs
 
 check-contract-requires : tie.Need-check-contract-requires
-check-contract-requires c κs = (read-stands _ _ _ (c .before .before .before .before .before .before .before .before .before .before .before .before .before .pre) refl refl _ _ _ (c .before .before .before .before .before .before .read .ensures) (c .before .before .enum-told .given .1), λ q. (c .before .before .before .before .before .before .before .before .before .before .before .before .before .pre) _ (read-accepted _ _ _ (c .before .before .before .before .before .before .before .before .before .before .before .before .before .pre) refl refl _ _ _ (c .before .before .before .before .before .before .read .ensures) (c .before .before .enum-told .given .1)) q)
+check-contract-requires c κs = (read-stands _ _ _ (c .before .before .before .before .before .before .before .before .before .before .before .before .before .pre) refl refl _ _ _ (c .before .before .before .before .before .before .read .ensures) (c .before .before .enum-told .given .1), λ q. other-none _ (c .before .before .before .before .before .before .before .before .before .before .before .before .before .pre) _ (read-accepted _ _ _ (c .before .before .before .before .before .before .before .before .before .before .before .before .before .pre) refl refl _ _ _ (c .before .before .before .before .before .before .read .ensures) (c .before .before .enum-told .given .1)) q)
 
 returns : tie.Need-returns
 returns c = check-refused _ _ _ _ _ _ (read-refused _ _ _ (c .before .before .before .before .before .before .before .before .before .before .before .before .pre) refl refl _ _ _ (c .before .before .before .before .before .read .ensures) _ (c .before .reply .given .1))

@@ -1,5 +1,6 @@
 use denote.Ref.{now}
 use mathlib.Core.Path.{refl}
+use Rattle.record.proofs.FindLaws.{other-none}
 use borrow.Author.Needs.{needs}
 use Rattle.planning.proofs.ReadLaws.{read-refused, read-accepted, read-stands}
 use Rattle.plans.proofs.PlanLaws.{refused-plans, accepted-plans}
@@ -28,7 +29,7 @@ slice-aggregate-plan-contract-2 : tie.Need-slice-aggregate-plan-contract-2
 slice-aggregate-plan-contract-2 c = search needs
 
 plan-contract-requires : tie.Need-plan-contract-requires
-plan-contract-requires c κs = (read-stands _ _ _ (c .before .before .before .before .before .before .before .before .before .before .before .before .before .before .before .before .before .before .pre) refl refl _ _ _ (c .before .before .before .before .before .before .before .before .before .before .read .ensures) (c .before .before .before .before .before .before .enum-told .given .1), λ q. (c .before .before .before .before .before .before .before .before .before .before .before .before .before .before .before .before .before .before .pre) _ (read-accepted _ _ _ (c .before .before .before .before .before .before .before .before .before .before .before .before .before .before .before .before .before .before .pre) refl refl _ _ _ (c .before .before .before .before .before .before .before .before .before .before .read .ensures) (c .before .before .before .before .before .before .enum-told .given .1)) q)
+plan-contract-requires c κs = (read-stands _ _ _ (c .before .before .before .before .before .before .before .before .before .before .before .before .before .before .before .before .before .before .pre) refl refl _ _ _ (c .before .before .before .before .before .before .before .before .before .before .read .ensures) (c .before .before .before .before .before .before .enum-told .given .1), λ q. other-none _ (c .before .before .before .before .before .before .before .before .before .before .before .before .before .before .before .before .before .before .pre) _ (read-accepted _ _ _ (c .before .before .before .before .before .before .before .before .before .before .before .before .before .before .before .before .before .before .pre) refl refl _ _ _ (c .before .before .before .before .before .before .before .before .before .before .read .ensures) (c .before .before .before .before .before .before .enum-told .given .1)) q)
 
 returns : tie.Need-returns
 returns c = refused-plans (now (c .before .before .before .before .before .before .before .before .before .before .before .before .before .args .bytes)) _ _ (read-refused _ _ _ (c .before .before .before .before .before .before .before .before .before .before .before .before .before .pre) refl refl _ _ _ (c .before .before .before .before .before .read .ensures) _ (c .before .reply .given .1))

@@ -1,7 +1,7 @@
 use mathlib.Core.Path.{sym, _∙_}
 use borrow.Author.Needs.{needs}
 use Rattle.area.proofs.Laws.{digits-length}
-use Rattle.record.proofs.PutLaws.{puts-none}
+use Rattle.area.proofs.PutLaws.{puts-none}
 use Rattle.record.proofs.output.put_cell.Statement.{statement}
 use Rattle.record.proofs.output.put_cell.Tie as tie
 

@@ -6,8 +6,9 @@ use native.Mathlib.Omega.{arith}
 use borrow.Author.Needs.{needs}
 use lib.ListN.{length}
 use Rattle.grid.specs.Map.{standingCells}
-use Rattle.record.specs.View.Write.{Puts}
-use Rattle.record.proofs.PutLaws.{puts-none, puts-then, puts-length, cellsTo, cells-turn, cells-room}
+use Rattle.area.specs.Puts.{Puts}
+use Rattle.area.proofs.PutLaws.{puts-none, puts-then, puts-length}
+use Rattle.record.proofs.PutLaws.{cellsTo, cells-turn, cells-room}
 use Rattle.record.proofs.output.put_cells.Statement.{statement}
 use Rattle.record.proofs.output.put_cells.Tie as tie
 

@@ -2,7 +2,7 @@ use native.Mathlib.Omega.{arith}
 use borrow.Author.Needs.{needs}
 use lib.ListN.{length-append}
 use Rattle.record.specs.View.Write.{gridWith}
-use Rattle.record.proofs.PutLaws.{puts-then, room-second}
+use Rattle.area.proofs.PutLaws.{puts-then, room-second}
 use Rattle.record.proofs.output.put_grid.Statement.{statement}
 use Rattle.record.proofs.output.put_grid.Tie as tie
 

@@ -5,7 +5,8 @@ use Prim.Native.Nat.{_-_, _≤_}
 use native.Mathlib.Omega.{arith}
 use borrow.Author.Needs.{needs}
 use lib.ListN.{length, drop, getD, drop-of-length-le}
-use Rattle.record.proofs.PutLaws.{Left, left-all, left-turn, left-room, left-done, byte-turn}
+use Rattle.area.proofs.PutLaws.{Left, left-all, left-turn, left-room, left-done}
+use Rattle.record.proofs.PutLaws.{byte-turn}
 use Rattle.record.proofs.output.put_map.Statement.{statement}
 use Rattle.record.proofs.output.put_map.Tie as tie
 

@@ -2,7 +2,7 @@ use borrow.Author.Tests.{eq-eqb, ne-eqb}
 use borrow.Author.Needs.{needs}
 use Rattle.area.proofs.Laws.{digits-length}
 use Rattle.contract.specs.Serialize.{moneyBytes}
-use Rattle.record.proofs.PutLaws.{puts-none}
+use Rattle.area.proofs.PutLaws.{puts-none}
 use Rattle.record.proofs.output.put_money.Statement.{statement}
 use Rattle.record.proofs.output.put_money.Tie as tie
 

@@ -2,7 +2,7 @@ use native.Mathlib.Omega.{arith}
 use borrow.Author.Needs.{needs}
 use lib.ListN.{length-append}
 use Rattle.area.proofs.Laws.{digits-length}
-use Rattle.record.proofs.PutLaws.{puts-then}
+use Rattle.area.proofs.PutLaws.{puts-then}
 use Rattle.record.proofs.output.put_segment.Statement.{statement}
 use Rattle.record.proofs.output.put_segment.Tie as tie
 

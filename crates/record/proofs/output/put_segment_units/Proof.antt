@@ -1,7 +1,7 @@
 use borrow.Author.Tests.{lt-ltb, le-ltb}
 use borrow.Author.Needs.{needs}
 use Rattle.area.proofs.Laws.{digits-length}
-use Rattle.record.proofs.PutLaws.{puts-none}
+use Rattle.area.proofs.PutLaws.{puts-none}
 use Rattle.record.proofs.output.put_segment_units.Statement.{statement}
 use Rattle.record.proofs.output.put_segment_units.Tie as tie
 

@@ -4,7 +4,8 @@ use native.Mathlib.Omega.{arith}
 use borrow.Author.Needs.{needs}
 use lib.ListN.{length}
 use Rattle.record.specs.View.Write.{runBytes}
-use Rattle.record.proofs.PutLaws.{Left, left-all, left-turn, left-done, runFrom, run-turn, run-room, run-none}
+use Rattle.area.proofs.PutLaws.{Left, left-all, left-turn, left-done}
+use Rattle.record.proofs.PutLaws.{runFrom, run-turn, run-room, run-none}
 use Rattle.record.proofs.output.put_segments.Statement.{statement}
 use Rattle.record.proofs.output.put_segments.Tie as tie
 

@@ -6,7 +6,8 @@ use borrow.Author.Needs.{needs}
 use lib.ListN.{length, drop}
 use Rattle.area.specs.Entries.{digits}
 use Rattle.contract.proofs.Lengths.{digits-all-length}
-use Rattle.record.proofs.PutLaws.{Left, left-all, left-turn, left-room, left-done, flat-turn, flat-none}
+use Rattle.area.proofs.PutLaws.{Left, left-all, left-turn, left-room, left-done}
+use Rattle.record.proofs.PutLaws.{flat-turn, flat-none}
 use Rattle.record.proofs.output.put_units.Statement.{statement}
 use Rattle.record.proofs.output.put_units.Tie as tie
 

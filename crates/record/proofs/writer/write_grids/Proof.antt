@@ -1,7 +1,7 @@
 use native.Mathlib.Omega.{arith}
 use borrow.Author.Needs.{needs}
 use Rattle.contract.proofs.Lengths.{digits-all-length}
-use Rattle.record.proofs.PutLaws.{puts-then}
+use Rattle.area.proofs.PutLaws.{puts-then}
 use Rattle.record.proofs.WriteLaws.{short, written, laid, map-size, grid-size, table-ready, table-length}
 use Rattle.record.proofs.writer.write_grids.Statement.{statement}
 use Rattle.record.proofs.writer.write_grids.Tie as tie

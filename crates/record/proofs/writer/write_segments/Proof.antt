@@ -1,6 +1,7 @@
 use native.Mathlib.Omega.{arith}
 use borrow.Author.Needs.{needs}
-use Rattle.record.proofs.PutLaws.{puts-then, run-length}
+use Rattle.area.proofs.PutLaws.{puts-then}
+use Rattle.record.proofs.PutLaws.{run-length}
 use Rattle.record.proofs.WriteLaws.{short, written, storable, segments-length}
 use Rattle.record.proofs.writer.write_segments.Statement.{statement}
 use Rattle.record.proofs.writer.write_segments.Tie as tie

@@ -1,5 +1,5 @@
 -- Areas that are roomy have room for a plan of every contract. Assumes nothing.
-use mathlib.Core.Path.{_≡_}
+use mathlib.Core.Path.{_≡_, refl}
 use mathlib.Core.Bool.{true, and-eq-true-iff}
 use mathlib.Core.List.{List, [], _∷_}
 use Prim.Native.Nat.{ℕ, _+_, _*_, _≤_}
@@ -9,14 +9,17 @@ use lib.ListN.{length}
 use borrow.Author.Tests.{leb-true, le-leb}
 use Rattle.area.specs.Entries.{entries}
 use Rattle.grid.specs.Rows.{rowsOf}
+use Rattle.contract.specs.Res.{Res, refused, ok, bind}
 use Rattle.contract.specs.Contract.{Contract, countOf}
+use Rattle.contract.specs.Parse.{parse}
 use Rattle.contract.specs.Valid.{Valid, sum, inRange}
+use Rattle.contract.proofs.ParsedValid.{parsed-valid}
 use Rattle.contract.specs.declared.Form.{Form}
 use Rattle.contract.specs.declared.Form.the-variants.{Ladder, UnitPrices, Table}
 use Rattle.planning.specs.Deals.{allUnits}
-use Rattle.planning.specs.Areas.{Areas, hasRoom, workFor, roomFor}
+use Rattle.planning.specs.Areas.{Areas, hasRoom, workFor, roomFor, Roomy}
+use Rattle.planning.specs.Promise.{roomed, ahead}
 use Rattle.planning.proofs.Outcome.{room}
-use Rattle.cases.specs.Case.{Roomy}
 
 -- a table has more rows than units
 more-rows : (us : List ℕ) → sum us + 1 ≤ rowsOf us
@@ -52,5 +55,14 @@ room-falls u bytes a h k r =
     let work : bytes ≤ length (a .work) = omega (arith, m .work) in
     rw (le-leb _ _ places, le-leb _ _ sums, le-leb _ _ (m .order), le-leb _ _ work)
 
-pub roomy-for : (k : Contract) → Valid k → (a : Areas) → Roomy a → roomFor k a ≡ true
+roomy-for : (k : Contract) → Valid k → (a : Areas) → Roomy a → roomFor k a ≡ true
 roomy-for k v a r = let n = needs (k .form) (k .units) (k .costs) (v .range) in room-falls _ _ a (n .few) (n .work) r
+
+-- so no refusal but the record's own stands ahead of 9
+pub roomy-ahead : (bytes : List ℕ) (a : Areas) → Roomy a → ahead bytes a ≡ parse bytes
+unfolding ahead
+roomy-ahead bytes a r = go (parse bytes) refl
+  where
+    go : (x : Res Contract) → parse bytes ≡ x → bind x (λ k. roomed k a) ≡ x
+    go (refused n) e = refl
+    go (ok k) e = rw (roomy-for k (parsed-valid bytes k e) a r)
