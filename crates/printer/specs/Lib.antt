@@ -1,1 +1,3 @@
-pub mod Lines
+pub mod Printout
+-- what the private functions ask
+pub mod Code

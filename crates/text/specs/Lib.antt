@@ -1,0 +1,3 @@
+pub mod Text
+-- what the private functions ask
+pub mod Code
