@@ -60,7 +60,7 @@ static int carry_out(void) {
         place = next_place;
         paid = next_paid;
     }
-    if (!yolkgorge_finished(session, sizeof session, count)) return 1;
+    if (yolkgorge_finished(session, sizeof session, count) != 1) return 1;
     printf("finished\n");
     return 0;
 }

@@ -101,7 +101,8 @@ uint32_t yolkgorge_open(uint8_t *session, size_t session_len, const uint8_t *rec
 uint32_t yolkgorge_report(uint8_t *session, size_t session_len, size_t count, const uint8_t *places, size_t places_len,
                           const uint8_t *sums, size_t sums_len, uint32_t side, uint32_t number);
 
-/* Answers 1 if all `count` steps are passed, that is, all is delivered and the price is paid; else 0. */
+/* Answers 1 if all `count` steps are passed, that is, all is delivered and the price is paid; 0 if not; 8 if the area is too
+ * short for a session. */
 uint32_t yolkgorge_finished(const uint8_t *session, size_t session_len, size_t count);
 
 #ifdef __cplusplus

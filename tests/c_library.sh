@@ -1,21 +1,34 @@
 #!/usr/bin/env bash
-# The C library as a C program meets it: the header in C and C++, the example desk, an installation, and hostile calls under valgrind.
+# The C library as a C program meets it: the header in C and C++, an installation, the program in README.md and the example desk
+# built from it, and hostile calls under valgrind.
 # Needs target/staticlib/libyolkgorge.a (`rt staticlib yolkgorge`).
-set -eu
+set -Eeuo pipefail
 cd "$(dirname "$0")/.."
 work=$(mktemp -d)
 trap 'rm -rf "$work"' EXIT
+trap 'echo "tests/c_library.sh: line $LINENO fails" >&2' ERR
 
 # the header in C++
-printf '#include "yolkgorge.h"\nint main() { return yolkgorge_finished(nullptr, 0, 1) == 0 ? 0 : 1; }\n' > "$work/header.cc"
+printf '#include "yolkgorge.h"\nint main() { return yolkgorge_finished(nullptr, 0, 1) == YOLKGORGE_SHORT ? 0 : 1; }\n' > "$work/header.cc"
 g++ -std=c++11 -Wall -Wextra -Werror -pedantic -Iinclude -o "$work/header" "$work/header.cc" target/staticlib/libyolkgorge.a
 "$work/header"
 
-# the desk, from an installation
+# an installation, and programs built from it
 make -s install PREFIX="$work/prefix" >/dev/null
 flags=$(PKG_CONFIG_PATH="$work/prefix/lib/pkgconfig" pkg-config --cflags --libs yolkgorge 2>/dev/null || echo "-I$work/prefix/include -L$work/prefix/lib -lyolkgorge")
 # shellcheck disable=SC2086
-gcc -O2 -std=c99 -Wall -Wextra -Werror -pedantic -o "$work/desk" examples/desk.c $flags
+installed() { gcc -O2 -std=c99 -Wall -Wextra -Werror -pedantic -o "$1" "$2" $flags; }
+
+# the program in README.md, its one block of C: the steps of case A as the printer writes them, and a refusal
+awk '/^```c$/ { blocks++; inside = 1; next } /^```$/ { inside = 0 } inside; END { exit blocks != 1 }' README.md > "$work/readme.c"
+installed "$work/readme" "$work/readme.c"
+"$work/readme" < examples/records/case-a.bin | diff - <(sed '1,/^steps /d' examples/records/case-a.txt)
+status=0
+refused=$("$work/readme" < examples/records/case-b.bin) || status=$?
+[ "$status $refused" = '1 refused 9' ]
+
+# the desk
+installed "$work/desk" examples/desk.c
 "$work/desk" examples/records/case-a.bin | diff - examples/desk-case-a.txt
 [ "$("$work/desk" examples/records/case-b.bin)" = 'refused 9' ]
 make -s uninstall PREFIX="$work/prefix"

@@ -3,7 +3,8 @@ byte of every area, every session.
 
 usage: python3 tests/compare_plans.py [--seed N] [--scale N]
 
-Needs target/staticlib/libyolkgorge.a (`rt staticlib yolkgorge`). Ends with status 1 and an explanation at the first difference.
+Needs target/staticlib/libyolkgorge.a (`rt staticlib yolkgorge`). Ends with status 1 and an explanation at the first difference,
+or where some answer never came up.
 """
 import argparse
 import sys
@@ -12,10 +13,12 @@ from collections import Counter
 from pathlib import Path
 
 sys.path.insert(0, str(Path(__file__).resolve().parent / "reference"))
+import examples  # noqa: E402  (needs the folder above)
 import library  # noqa: E402
-import planning  # noqa: E402  (needs the folder above)
+import planning  # noqa: E402
 import planning_cases  # noqa: E402
-from library import BOUNDS_BYTES, SESSION_BYTES  # noqa: E402
+from library import BOUNDS_BYTES  # noqa: E402
+from record_cases import in_turn  # noqa: E402
 
 EXAMPLES = Path(__file__).resolve().parent.parent / "examples/records"
 # the examples and what the paper says of them: a refusal, or the step count
@@ -25,6 +28,9 @@ PLANNED = {"case-a": 5, "case-b": -9, "case-c": 4, "case-d": -9, "case-e": 1, "c
 READ = ("ladder-1000", "total-largest")
 # the plan that the published method prints for its table 3
 PRINTED_PLAN = [(2, 5), (3, 14), (4, 18), (4, 22), (9, 22)]
+# the answers that each entry can give; all must come up
+ANSWERS = {"plan": (*range(-9, 0), "made"), "bounds": (*range(9), 12), "check": (*range(9), 12), "open": (*range(9), 12),
+           "report": (0, 8, 10, 11), "finished": (0, 1, 8)}
 
 
 class Difference(Exception):
@@ -36,26 +42,55 @@ def same(kind, what, got, wanted, *shown):
         raise Difference(f"{kind}: {what} is {got!r}, the reference says {wanted!r}\n" + "\n".join(map(repr, shown)))
 
 
-def session_bytes(session):
-    passed, delivered, paid = session
-    return passed.to_bytes(8, "little") + bytes([delivered, paid])
+def example(name):
+    return (EXAMPLES / f"{name}.bin").read_bytes()
+
+
+def planned(lib, record):
+    """The answer, and the areas of places, sums and order."""
+    answer, _, after = lib.plan(record, bytes(9_000), bytes(9_000), bytes(8), bytes(40_000))
+    return answer, after[:3]
 
 
 def example_plans(lib):
     for name, wanted in PLANNED.items():
-        record = (EXAMPLES / f"{name}.bin").read_bytes()
-        answer, _, _ = lib.plan(record, bytes(9_000), bytes(9_000), bytes(8), bytes(40_000))
-        same(name, "the answer to planning", answer, wanted)
+        same(name, "the answer to planning", planned(lib, example(name))[0], wanted)
         yield "example"
     for name in READ:
-        answer = lib.bounds((EXAMPLES / f"{name}.bin").read_bytes(), 0, bytes(8), bytes(BOUNDS_BYTES))[0]
+        answer = lib.bounds(example(name), 0, bytes(8), bytes(BOUNDS_BYTES))[0]
         same(name, "the answer to a question for bounds", answer, 0)
         yield "example"
     places, sums = (b"".join(state[side].to_bytes(size, "little") for state in PRINTED_PLAN) for side, size in ((0, 2), (1, 4)))
-    brought = (EXAMPLES / "table-3.bin").read_bytes(), len(PRINTED_PLAN), places, sums, bytes(8)
+    brought = example("table-3"), len(PRINTED_PLAN), places, sums, bytes(8)
     same("table-3", "the check of the printed plan", lib.check(*brought), planning.check(*brought))
     same("table-3", "the check of the printed plan", lib.check(*brought), 0)
     yield "example"
+    yield stock_prices(lib)
+    yield two_orders(lib)
+
+
+def stock_prices(lib):
+    """The stock figure as unit prices: its order names each item once, and its plan is that of the ladder in this order."""
+    record = example("stock-prices")
+    answer, (places, sums, order) = planned(lib, record)
+    items = tuple(item for item in order if item)
+    same("stock-prices", "whether it is planned", answer > 0, True, answer)
+    same("stock-prices", "the order", (sorted(items), order), ([1, 2, 3, 4, 5], planning.order_bytes(items)))
+    along = planned(lib, examples.stocks_along(items))
+    same("stock-prices", "the plan in its order", (answer, places, sums), (along[0], *along[1][:2]))
+    same("stock-prices", "the check of the plan", planning.check(record, answer, places, sums, order), 0)
+    same("stock-prices", "the order", ("steps", order), planning.plan(record, len(places), len(sums), len(order), 0)[::2])
+    return "example"
+
+
+def two_orders(lib):
+    """The count for unit prices is against plans in our order: another one may have a shorter plan."""
+    answer, (_, _, order) = planned(lib, example("two-orders"))
+    counts = [planned(lib, examples.ladder(examples.TWO_ORDERS_DEAL, rises))[0]
+              for rises in (examples.TWO_ORDERS, examples.TWO_ORDERS[::-1])]
+    same("two-orders", "the steps of each order", counts, [2, 3])
+    same("two-orders", "the steps in our order", answer, counts[order.index(1)], order)
+    return "example"
 
 
 def plans(lib, seed, scale):
@@ -95,25 +130,29 @@ def checks(lib, seed, scale):
 
 def sessions(lib, seed, scale):
     for case in planning_cases.session_cases(seed, scale):
-        held, session = b"\xa5" * SESSION_BYTES, case.session
-        plan = (case.count, case.places, case.sums)
-        if session is None:
-            number, session = planning.open(case.record, *plan, case.order)
-            answer, after = lib.open(held, case.record, *plan, case.order)
+        area, plan = case.area, (case.count, case.places, case.sums)
+        if case.opens:
+            number, wanted = planning.open_in(area, case.record, *plan, case.order)
+            answer, area = lib.open(area, case.record, *plan, case.order)
             same(case.kind, "the answer to opening", answer, number, case)
-            same(case.kind, "the session opened", after, held if number else session_bytes(session), case)
+            same(case.kind, "the session area after opening", area, wanted, case)
             yield f"open {number}"
-            if number:
-                continue
-        for side, value in case.reports:
-            number, after = planning.report(session, *plan, side, value)
-            answer, held = lib.report(session_bytes(session), *plan, side, value)
-            same(case.kind, "the reply to a report", answer, number, case, session, side, value)
-            same(case.kind, "the session after a report", held, session_bytes(after), case, session, side, value)
-            same(case.kind, "whether it is finished", lib.finished(held, case.count), int(planning.finished(after, case.count)), case)
-            session = after
+        yield finished(lib, case, area)
+        for side, value in () if case.opens and number else case.reports:
+            number, wanted = planning.report_in(area, *plan, side, value)
+            answer, after = lib.report(area, *plan, side, value)
+            same(case.kind, "the reply to a report", answer, number, case, area, side, value)
+            same(case.kind, "the session area after a report", after, wanted, case, area, side, value)
             yield f"report {number}"
+            area = after
+            yield finished(lib, case, area)
         yield "session"
+
+
+def finished(lib, case, area):
+    wanted = planning.finished_in(area, case.count)
+    same(case.kind, f"finished, for an area of {len(area)} bytes,", lib.finished(area, case.count), wanted, case, area)
+    return f"finished {wanted}"
 
 
 def main():
@@ -124,10 +163,12 @@ def main():
     with tempfile.TemporaryDirectory() as folder:
         lib = library.Library(library.build(folder))
         seen = Counter(example_plans(lib))
-        for compare in (plans, bounds, checks, sessions):
-            seen.update(compare(lib, words.seed, words.scale))
+        seen.update(in_turn(*(compare(lib, words.seed, words.scale) for compare in (plans, bounds, checks, sessions))))
     for name, count in sorted(seen.items()):
         print(f"{count:8} {name}")
+    missing = [f"{entry} {answer}" for entry, some in ANSWERS.items() for answer in some if not seen[f"{entry} {answer}"]]
+    if missing:
+        sys.exit(f"no case has the answer {missing}")
     print(f"{sum(seen.values())} answers agree")
 
 

@@ -11,40 +11,19 @@ from pathlib import Path
 HERE = Path(__file__).resolve().parent
 sys.path.insert(0, str(HERE / "reference"))
 import record  # noqa: E402  (needs the folder above)
-from record import LADDER, TABLE, UNIT_PRICES, Header  # noqa: E402
-
-
-def written(header, costs, values):
-    answer = record.write(header, costs, values, 8_192)
-    assert isinstance(answer, bytes), answer
-    return answer
-
-
-def ladder(units, costs, price, supplier, buyer):
-    return written(Header(price, supplier, buyer, LADDER, units), costs, costs)
+from planning_cases import even_deal  # noqa: E402
+from record import LADDER, TABLE, UNIT_PRICES  # noqa: E402
 
 
 def deals():
     for units in (250, 500, 1_000):
         # a payment and the delivery of one unit in turn; and one step, as the defection costs cover all
-        yield f"ladder, {units} units, tight", ladder(units, [10] * units, 10 * units, 10, 0)
-        yield f"ladder, {units} units, loose", ladder(units, [10] * units, 10 * units, 10 * units, 10 * units)
+        yield f"ladder, {units} units, tight", even_deal(LADDER, (units,), 10, 10, 0)
+        yield f"ladder, {units} units, loose", even_deal(LADDER, (units,), 10, 10 * units, 10 * units)
     for each in (31, 62, 125):
-        header = Header(80 * each, 10, 10, UNIT_PRICES, 8, (each,) * 8)
-        yield f"unit prices, {8 * each} units", written(header, [10] * 8, [10] * 8)
+        yield f"unit prices, {8 * each} units", even_deal(UNIT_PRICES, (each,) * 8, 10, 10, 10)
     for units in ((127,), (1, 63), (3, 3, 3, 1)):
-        rows = 1
-        for u in units:
-            rows *= u + 1
-        cells = [10 * sum(digits(r, units)) for r in range(rows)]
-        header = Header(cells[-1], 10, 0, TABLE, len(units), units + (0,) * (8 - len(units)))
-        yield f"table, units {units}", written(header, cells, cells)
-
-
-def digits(row, units):
-    for u in reversed(units):
-        yield row % (u + 1)
-        row //= u + 1
+        yield f"table, units {units}", even_deal(TABLE, units, 10, 10, 0)
 
 
 def main():
@@ -52,8 +31,8 @@ def main():
         folder = Path(folder)
         program = folder / "plan_file"
         subprocess.run(["gcc", "-O2", "-o", program, HERE / "plan_file.c", HERE.parent / "target/staticlib/libyolkgorge.a"], check=True)
-        for name, content in deals():
-            (folder / "record").write_bytes(content)
+        for name, deal in deals():
+            (folder / "record").write_bytes(record.write(deal.header, deal.costs, deal.values, 8_016))
             run = subprocess.run(
                 ["valgrind", "--tool=callgrind", "--callgrind-out-file=" + str(folder / "out"), "--toggle-collect=yolkgorge_plan",
                  program, folder / "record"], capture_output=True, text=True, check=True)

@@ -1,14 +1,14 @@
 """The C library, called from Python: the same entries as a desk calls, over numbers and byte areas.
 
-build(folder)   makes a shared library of target/staticlib/libyolkgorge.a
+build(folder)   makes a shared library of target/staticlib/libyolkgorge.a, or of the file that YOLKGORGE_LIB names
 Library(path)   its entries; each answers as the reference in reference/planning.py does, areas included
 """
 import ctypes
+import os
 import subprocess
 from pathlib import Path
 
-ARCHIVE = Path(__file__).resolve().parent.parent / "target/staticlib/libyolkgorge.a"
-SESSION_BYTES = 10
+ARCHIVE = os.environ.get("YOLKGORGE_LIB") or Path(__file__).resolve().parent.parent / "target/staticlib/libyolkgorge.a"
 BOUNDS_BYTES = 16
 
 

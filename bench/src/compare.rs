@@ -8,6 +8,7 @@ use crate::plain;
 use crate::program::{Program, LIBRARY, REFERENCE};
 use crate::random::Random;
 use crate::sample::{self, Sample};
+use std::collections::BTreeMap;
 use std::fmt::Debug;
 
 /// How many disagreements are printed whole.
@@ -22,6 +23,8 @@ struct Tally {
     disagreements: usize,
     /// How often the library refused a call with each number; at 0, how often it did not refuse.
     answers: [u64; 13],
+    /// How often the library gave each answer to whether a session is finished.
+    finished: BTreeMap<u32, u64>,
 }
 
 /// Compares `count` records; true if all agree.
@@ -51,6 +54,7 @@ impl Tally {
         let numbers = self.answers.iter().enumerate().skip(1);
         let refusals: Vec<String> = numbers.map(|(number, count)| format!("{number}: {count}")).collect();
         println!("refusals by number {}", refusals.join(", "));
+        println!("answers to whether a session is finished {:?}", self.finished);
         println!("disagreements {}", self.disagreements);
     }
 }
@@ -180,19 +184,30 @@ impl Case<'_> {
         if answer != 0 {
             session = self.some_session(plan.count);
         }
+        self.finished(&session, plan.count);
         for _ in 0..40.min(3 * plan.count + 4) {
             session = self.report(&plan, session);
         }
     }
 
-    /// A session of any kind: reports need no check.
+    /// A session of any kind: reports need no check. Sometimes its area is too short, sometimes longer.
     fn some_session(&mut self, count: usize) -> Vec<u8> {
         let random = &mut *self.random;
         let passed = if random.once_in(5) { random.next() } else { random.below(count as u64 + 2) };
         let marks = [random.byte() & 3, random.byte() & 3];
-        let mut session = [&passed.to_le_bytes()[..], &marks].concat();
-        session.truncate(random.within(8, 14) as usize);
+        let tail = [random.byte(), random.byte(), random.byte(), random.byte()];
+        let mut session = [&passed.to_le_bytes()[..], &marks, &tail].concat();
+        session.truncate(match random.below(4) {
+            0 => random.below(10),
+            1 => random.within(11, 14),
+            _ => 10,
+        } as usize);
         session
+    }
+
+    fn finished(&mut self, session: &[u8], count: usize) {
+        let answer = self.both(("finished", session, count), |program| (program.finished)(session, count));
+        *self.tally.finished.entry(answer).or_default() += 1;
     }
 
     /// A report, mostly one that fits; the session after it.
@@ -209,13 +224,12 @@ impl Case<'_> {
             _ => {}
         }
         let count = if random.once_in(12) { random.below(plan.count as u64 + 3) as usize } else { plan.count };
-        let (answer, after, _) = self.both(("report", side, number, count, &session, plan), |program| {
+        let (answer, after) = self.both(("report", side, number, count, &session, plan), |program| {
             let mut after = session.clone();
-            let answer = (program.report)(&mut after, count, &plan.places, &plan.sums, side, number);
-            let finished = (program.finished)(&after, count);
-            (answer, after, finished)
+            ((program.report)(&mut after, count, &plan.places, &plan.sums, side, number), after)
         });
         self.seen(answer);
+        self.finished(&after, count);
         after
     }
 }

@@ -70,10 +70,15 @@ TABLE_3_UNITS = (1, 4)
 TABLE_3_COSTS = (0, 5, 9, 13, 17, 10, 13, 16, 18, 19)
 TABLE_3_VALUES = (0, 3, 6, 10, 14, 6, 10, 15, 20, 26)
 
-# Figure 1 in cents, in the order of its output: units, cost and value of a unit
+# Figure 1 in cents: name, units, cost and value of a unit; then the order of its output, by item number
 STOCK_DEAL = (2_586_460, 100_000, 150_000)
-STOCKS = (("DELL", 10, 4_181, 4_250), ("PG", 40, 8_510, 8_844), ("EBAY", 100, 12_025, 12_725),
-          ("MSFT", 60, 9_081, 9_800), ("HWP", 30, 10_263, 10_990))
+STOCKS = (("MSFT", 60, 9_081, 9_800), ("HWP", 30, 10_263, 10_990), ("DELL", 10, 4_181, 4_250),
+          ("EBAY", 100, 12_025, 12_725), ("PG", 40, 8_510, 8_844))
+STOCK_ORDER = (3, 5, 4, 1, 2)
+
+# Two items of one unit each, and the deal: the order 1, 2 has a shorter plan than the order 2, 1
+TWO_ORDERS_DEAL = (6, 0, 5)
+TWO_ORDERS = ((2, 3), (0, 1))
 
 LARGEST = 1_000_000_000
 
@@ -82,7 +87,7 @@ LARGEST = 1_000_000_000
 
 def examples():
     return [*case_a_and_its_changes(), case_e(), case_f(), *cases_g_and_h(), *sessions_and_cuts(),
-            table_3(), stock_ladder(), *long_ladders(), *totals()]
+            two_orders(), table_3(), *stocks(), *long_ladders(), *totals()]
 
 
 def case_a_and_its_changes():
@@ -147,6 +152,13 @@ def sessions_and_cuts():
     ]
 
 
+def two_orders():
+    return Example("two-orders", unit_prices(TWO_ORDERS_DEAL, [(1, *item) for item in TWO_ORDERS]), 0,
+                   ("Unit prices, two items of one unit each, cost and value (2, 3) and (0, 1); P 6, cs 0, cd 5.",),
+                   ("The order 1, 2 has a plan of 2 steps, the order 2, 1 one of 3.",
+                    "Either may be chosen: the count is against plans in the same order.",))
+
+
 def table_3():
     return Example("table-3", table(TABLE_3_DEAL, TABLE_3_UNITS, TABLE_3_COSTS, TABLE_3_VALUES), 0,
                    ("Table 3 of document 000 with every cell given, also the zeros of row 0; P 22, cs 2, cd 2.",
@@ -156,13 +168,30 @@ def table_3():
                     "rows 2, 3, 4, 4, 9 and paid totals 5, 14, 18, 22, 22."))
 
 
-def stock_ladder():
-    rises = [(cost, value) for _, units, cost, value in STOCKS for _ in range(units)]
-    lines = (f"{name}: {units} units, cost {cost}, value {value} each." for name, units, cost, value in STOCKS)
-    return Example("stock-ladder", ladder(STOCK_DEAL, rises), 0,
-                   ("The order of document 000's stock figure as a ladder of 240 units, amounts in cents.",
-                    "P 2586460, cs 100000, cd 150000.", *lines),
-                   ("Planning: 17 steps; the 16 that the figure prints do not bind.",))
+def stocks():
+    """The stock figure: its order as a ladder, and its items as they are put in."""
+    ordered = [STOCKS[item - 1] for item in STOCK_ORDER]
+    terms = "P 2586460, cs 100000, cd 150000."
+    return [
+        Example("stock-ladder", stocks_along(STOCK_ORDER), 0,
+                ("The order of document 000's stock figure as a ladder of 240 units, amounts in cents.",
+                 terms, *stock_lines(ordered)),
+                ("Planning: 17 steps; the 16 that the figure prints do not bind.",)),
+        Example("stock-prices", unit_prices(STOCK_DEAL, [stock[1:] for stock in STOCKS]), 0,
+                ("The items of document 000's stock figure as unit prices, 240 units, amounts in cents.",
+                 terms, *stock_lines(STOCKS)),
+                ("Planning: a plan in an order that names each item once; which order is open.",)),
+    ]
+
+
+def stocks_along(order):
+    """The stocks as a ladder, all units of the first item in the order first."""
+    rises = [(cost, value) for _, units, cost, value in (STOCKS[item - 1] for item in order) for _ in range(units)]
+    return ladder(STOCK_DEAL, rises)
+
+
+def stock_lines(some):
+    return (f"{name}: {units} units, cost {cost}, value {value} each." for name, units, cost, value in some)
 
 
 def long_ladders():

@@ -9,6 +9,7 @@ check(record, count, places, sums, order)              0 or the number of a refu
 open(record, count, places, sums, order)               (number, session); the session is None on a refusal
 report(session, count, places, sums, side, number)     (number, session); number 0 means that the report was taken
 finished(session, count)                               whether the session is finished
+open_in, report_in, finished_in                        the same with a session in a byte area, as a C program holds it
 
 Records and areas are bytes, lengths are in bytes. A session is (steps passed, delivered mark, paid mark).
 """
@@ -23,6 +24,7 @@ from record import LADDER, RANGE, SHORT, TABLE, UNIT_PRICES, Contract
 IMPOSSIBLE, UNFIT, FINISHED, UNSAFE = 9, 10, 11, 12
 
 PLACE_SIZE, SUM_SIZE, ORDER_SIZE = 2, 4, 8  # bytes of an entry, and of the order that counts
+PASSED_SIZE, SESSION_SIZE = 8, 10           # bytes of the steps passed, and with the two marks
 DELIVERY, PAYMENT = 0, 1                    # the sides of a report
 START = (0, 0)                              # nothing delivered, nothing paid
 
@@ -384,3 +386,36 @@ def passed_over(session, count, places, sums):
     while not finished(session, count) and not open_moves(session, places, sums):
         session = (session[0] + 1, False, False)
     return session
+
+
+# Sessions in byte areas: the steps passed, then a byte for each mark; zero is no mark, any other byte is one
+
+def open_in(area, record, count, places, sums, order):
+    """The number and the area after it. A short area gets 8 at 8's place: after the record's refusals, ahead of 12."""
+    if len(area) < SESSION_SIZE and isinstance(records.parse(record), Contract):
+        return SHORT, area
+    number, session = open(record, count, places, sums, order)
+    return number, area if number else with_session(area, session)
+
+
+def report_in(area, count, places, sums, side, number):
+    """The reply and the area after it: byte for byte as it was, unless the report is taken."""
+    if len(area) < SESSION_SIZE:
+        return SHORT, area
+    reply, session = report(session_in(area), count, places, sums, side, number)
+    return reply, area if reply else with_session(area, session)
+
+
+def finished_in(area, count):
+    """1 or 0, and 8 for a short area."""
+    return SHORT if len(area) < SESSION_SIZE else int(finished(session_in(area), count))
+
+
+def session_in(area):
+    return (int.from_bytes(area[:PASSED_SIZE], "little"), *(mark != 0 for mark in area[PASSED_SIZE:SESSION_SIZE]))
+
+
+def with_session(area, session):
+    """The area with the session at its start; what lies after it stays."""
+    passed, *marks = session
+    return passed.to_bytes(PASSED_SIZE, "little") + bytes(marks) + area[SESSION_SIZE:]

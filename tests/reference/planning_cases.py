@@ -1,13 +1,13 @@
 """Cases for comparing two planners, checkers and sessions, the same on every run.
 
-plan_cases(seed), bounds_cases(seed), check_cases(seed), session_cases(seed)   lists of the classes below
-few_cases(seed)                                                                a small batch of each, as four lists
+plan_cases(seed), bounds_cases(seed), check_cases(seed), session_cases(seed)   one by one, of the classes below
 
 Most deals are tight: the leaving costs are about the least with which a plan exists, and the price is at or next to an
 end of the range in which the start is safe. So many are impossible and many just possible.
 """
 import random
 from dataclasses import dataclass, replace
+from itertools import product
 from math import inf
 
 import examples
@@ -15,7 +15,7 @@ import planning
 import record
 import record_cases
 from record import LADDER, MOST_MONEY, TABLE, UNIT_PRICES, Contract, Header
-from record_cases import FORMS, MAX_U16, MAX_U32
+from record_cases import FORMS, MAX_U16, MAX_U32, MAX_U64, in_turn
 
 LARGE_TABLES = ((3, 3, 3, 1), (7, 15), (1, 1, 1, 15), (127,), (10, 10), (1, 7, 7), (4, 4, 4), (63, 1), (5, 20))
 
@@ -53,8 +53,9 @@ class CheckCase:
 
 @dataclass(frozen=True)
 class SessionCase(CheckCase):
-    """Reports one after the other, from the session given, or from the one that opening the plan hands back."""
-    session: tuple | None
+    """Reports one after the other, to the session in the area, or to the one that opening the plan stores there."""
+    area: bytes
+    opens: bool
     reports: tuple  # of (side, number)
 
 
@@ -188,6 +189,23 @@ def large_deal(rng, form):
     return rng.choice((tight, tight, loose))(rng, goods)
 
 
+def even_deal(form, units, amount, supplier, buyer):
+    """Each unit costs this amount and is worth it; the price is that of all. Units of each item, of a ladder all in one."""
+    price = amount * sum(units)
+    if form == LADDER:
+        count, units, entries = sum(units), (), [amount] * sum(units)
+    elif form == UNIT_PRICES:
+        count, entries = len(units), [amount] * len(units)
+    else:
+        count, entries = len(units), [amount * sum(held) for held in product(*(range(n + 1) for n in units))]
+    return Contract(Header(price, supplier, buyer, form, count, record.padded(units)), entries, entries)
+
+
+def unit_by_unit(form, units, amount=2):
+    """A deal with the most steps that a plan can have: payments and single units by turns, payments at both ends."""
+    return even_deal(form, units, amount, amount // 2, amount - amount // 2)
+
+
 def tiny_deal(rng, form):
     """At most four units and a price of at most eight, for going through all plans; most have several of both."""
     while True:
@@ -255,31 +273,28 @@ def plan_case(rng, kind, contract, lengths=None):
 
 
 def example_plans(rng):
-    cases = []
     for example in examples.examples():
         contract = record.parse(example.record)
         need = needed(contract) if isinstance(contract, Contract) else [40, 80, 8, 40]
         for lengths in need, longer_lengths(rng, need):
-            cases.append(PlanCase("example " + example.name, example.record, *filled(rng, lengths)))
-    return cases
+            yield PlanCase("example " + example.name, example.record, *filled(rng, lengths))
 
 
 def small_plans(rng, each):
-    return [plan_case(rng, "small " + NAMES[form], small_deal(rng, form)) for form in FORMS for _ in range(each)]
+    return (plan_case(rng, "small " + NAMES[form], small_deal(rng, form)) for _ in range(each) for form in FORMS)
 
 
 def tiny_plans(rng, each):
-    return [plan_case(rng, "tiny " + NAMES[form], tiny_deal(rng, form)) for form in FORMS for _ in range(each)]
+    return (plan_case(rng, "tiny " + NAMES[form], tiny_deal(rng, form)) for _ in range(each) for form in FORMS)
 
 
 def large_plans(rng, each):
-    deals = [large_deal(rng, form) for form in FORMS for _ in range(each)] + [unit_by_unit(1_000)]
-    return [plan_case(rng, "large " + NAMES[deal.header.form], deal) for deal in deals]
+    deals = [large_deal(rng, form) for form in FORMS for _ in range(each)] + [unit_by_unit(LADDER, (1_000,))]
+    yield from (plan_case(rng, "large " + NAMES[deal.header.form], deal) for deal in deals)
 
 
 def area_plans(rng, each):
     """For every deal areas of exactly the needed lengths, then each area in turn at its edges, then some at random."""
-    cases = []
     for form in FORMS:
         for _ in range(each):
             contract = small_deal(rng, form)
@@ -287,8 +302,7 @@ def area_plans(rng, each):
             lengths = [need] + [changed(need, area, more)
                                 for area in range(4) for more in (-need[area], -4, -2, -1, 1, 3)]
             lengths += [short_lengths(rng, need) for _ in range(4)] + [[0, 0, 0, 0]]
-            cases += [plan_case(rng, "areas " + NAMES[form], contract, some) for some in lengths]
-    return cases
+            yield from [plan_case(rng, "areas " + NAMES[form], contract, some) for some in lengths]
 
 
 def changed(lengths, area, more):
@@ -297,12 +311,10 @@ def changed(lengths, area, more):
 
 def damaged_plans(rng, count):
     """Damaged records, with good and with short areas: the record's refusals stand first."""
-    cases = []
     for i in range(count):
         contract = small_deal(rng, FORMS[i % 3])
         lengths = rng.choice((longer_lengths, longer_lengths, short_lengths))(rng, needed(contract))
-        cases.append(PlanCase("damaged", damaged(rng, contract), *filled(rng, lengths)))
-    return cases
+        yield PlanCase("damaged", damaged(rng, contract), *filled(rng, lengths))
 
 
 def extreme_plans(rng, count):
@@ -310,14 +322,21 @@ def extreme_plans(rng, count):
     contracts = [record_cases.some_contract(rng, FORMS[i % 3]) for i in range(count)]
     contracts += [with_deal(contract, rng.choice((0, MOST_MONEY)), MOST_MONEY, MOST_MONEY)
                   for contract in contracts[::2]]
-    return [plan_case(rng, "extreme", contract) for contract in contracts]
+    yield from (plan_case(rng, "extreme", contract) for contract in contracts)
+
+
+def limit_plans(rng):
+    """Contracts at the limits of a record and one beyond, whole, cut by a byte, and cut behind the first units."""
+    for contract in (*record_cases.limit_contracts(), record_cases.too_many_rows_early()):
+        case = plan_case(rng, "limits", contract)
+        yield from (replace(case, record=case.record[:end]) for end in (None, -1, 4))
 
 
 def plan_cases(seed, scale=1):
     rng = random.Random(seed)
-    return [*example_plans(rng), *tiny_plans(rng, 400 * scale), *small_plans(rng, 600 * scale),
-            *area_plans(rng, 20 * scale), *damaged_plans(rng, 900 * scale), *extreme_plans(rng, 300 * scale),
-            *large_plans(rng, 15 * scale)]
+    return in_turn(example_plans(rng), limit_plans(rng), tiny_plans(rng, 400 * scale), small_plans(rng, 600 * scale),
+                   area_plans(rng, 20 * scale), damaged_plans(rng, 900 * scale), extreme_plans(rng, 300 * scale),
+                   large_plans(rng, 15 * scale))
 
 
 # Orders
@@ -363,10 +382,10 @@ def bounds_case(rng, contract, damage):
 
 def bounds_cases(seed, scale=1):
     rng = random.Random(seed)
-    cases = [bounds_case(rng, small_deal(rng, form), damage=False) for form in FORMS for _ in range(700 * scale)]
-    cases += [bounds_case(rng, small_deal(rng), damage=True) for _ in range(300 * scale)]
-    cases += [bounds_case(rng, record_cases.some_contract(rng), damage=False) for _ in range(300 * scale)]
-    return cases + [bounds_case(rng, large_deal(rng, form), damage=False) for form in FORMS for _ in range(10 * scale)]
+    yield from (bounds_case(rng, small_deal(rng, form), damage=False) for form in FORMS for _ in range(700 * scale))
+    yield from (bounds_case(rng, small_deal(rng), damage=True) for _ in range(300 * scale))
+    yield from (bounds_case(rng, record_cases.some_contract(rng), damage=False) for _ in range(300 * scale))
+    yield from (bounds_case(rng, large_deal(rng, form), damage=False) for form in FORMS for _ in range(10 * scale))
 
 
 # Brought plans: lists of states, changed in one way each
@@ -380,12 +399,12 @@ class Brought:
 
 
 def brought(rng, contract):
-    """Ours, or another walk along bounds; where no plan exists, states at random."""
+    """Ours, or another walk along bounds; where no safe plan is found, states at random."""
     found = planning.plan_of(contract)
     steps, items = found or (None, rng.sample(range(1, contract.header.count + 1), contract.header.count))
     items = tuple(items) if contract.header.form == UNIT_PRICES else ()
     deal = planning.deal_of(contract, items)
-    if steps is None:
+    if steps is None or not deal.is_plan(steps):
         steps = sorted((rng.randint(0, deal.last), rng.randint(0, deal.price)) for _ in range(rng.randint(0, 4)))
         steps.append((deal.last, deal.price))
     elif rng.random() < 0.4:
@@ -462,6 +481,13 @@ def places_swapped(rng, plan):
     return [(place, paid) for (place, _), (_, paid) in zip(others, plan.steps)]
 
 
+def taken_back(rng, plan):
+    """The units of one step taken back and delivered again: each state is safe, only units are taken back."""
+    i = rng.randrange(len(plan.steps))
+    (a, _), (b, q) = ([planning.START] + plan.steps)[i:i + 2]
+    return plan.steps[:i + 1] + [(a, q), (b, q)] + plan.steps[i + 1:]
+
+
 def cut_short(rng, plan):
     return plan.steps[:rng.randrange(len(plan.steps) + 1)]
 
@@ -476,7 +502,7 @@ def merged(rng, plan):
 
 
 CHANGES = (unchanged, unchanged, state_changed, state_changed, state_changed, state_dropped, state_doubled, empty_start,
-           needless_step, needless_step, swapped, places_swapped, cut_short, all_at_once, merged)
+           needless_step, needless_step, swapped, places_swapped, taken_back, cut_short, all_at_once, merged)
 
 
 def plan_areas(rng, steps):
@@ -522,19 +548,24 @@ def with_damage(rng, case):
 
 def check_cases(seed, scale=1):
     rng = random.Random(seed)
-    cases = []
-    for form in FORMS:
-        for _ in range(500 * scale):
-            plan = brought(rng, small_deal(rng, form))
-            cases += [check_case(rng, NAMES[form], plan) for _ in range(5)]
-        for _ in range(3 * scale):
-            plan = brought(rng, large_deal(rng, form))
-            cases += [check_case(rng, "large " + NAMES[form], plan) for _ in range(4)]
-    for spoiled in with_other_count, with_wrong_order, with_cut_area, with_damage:
-        for i in range(400 * scale):
-            plan = brought(rng, small_deal(rng, FORMS[i % 3]))
-            cases.append(spoiled(rng, brought_case(rng, "brought", plan, plan.steps)))
-    return cases
+    kinds = [changed_plans(rng, form, 500 * scale, 3 * scale) for form in FORMS]
+    return in_turn(*kinds, *(spoiled_plans(rng, spoiled, 400 * scale)
+                             for spoiled in (with_other_count, with_wrong_order, with_cut_area, with_damage)))
+
+
+def changed_plans(rng, form, small, large):
+    for _ in range(small):
+        plan = brought(rng, small_deal(rng, form))
+        yield from [check_case(rng, NAMES[form], plan) for _ in range(5)]
+    for _ in range(large):
+        plan = brought(rng, large_deal(rng, form))
+        yield from [check_case(rng, "large " + NAMES[form], plan) for _ in range(4)]
+
+
+def spoiled_plans(rng, spoiled, count):
+    for i in range(count):
+        plan = brought(rng, small_deal(rng, FORMS[i % 3]))
+        yield spoiled(rng, brought_case(rng, "brought", plan, plan.steps))
 
 
 # Sessions
@@ -550,53 +581,61 @@ def fitting_reports(rng, steps, passed=0):
 
 
 def disturbed(rng, reports):
-    """With reports that do not fit: off by one, of the other side, made before, not due yet, equal in low bits."""
+    """With reports that do not fit: off by one, of another side, made before, not due yet, equal in low bits."""
     mixed = []
     for i, (side, number) in enumerate(reports):
         wrong = [(side, number + 1), (side, max(0, number - 1)), (1 - side, number), reports[i - 1],
                  reports[min(i + 1, len(reports) - 1)], (side, number + 2 ** 16), (side, 0), (1 - side, 0),
-                 (side, MAX_U32)]
+                 (side, MAX_U32), (side + 2, number)]
         mixed += rng.sample(wrong, rng.choice((0, 0, 1, 2)))
         mixed += [(side, number)] * rng.choice((1, 1, 1, 2))
     return [(side, min(number, MAX_U32)) for side, number in mixed]
 
 
-def session_case(rng, kind, plan, steps):
+def session_case(rng, kind, plan, steps, length=None):
     case = brought_case(rng, kind, plan, steps)
     reports = fitting_reports(rng, steps)
     if rng.random() < 0.7:
         reports = disturbed(rng, reports)
     after_the_end = [(rng.randrange(2), rng.choice((0, plan.deal.last, plan.deal.price))) for _ in range(2)]
-    return SessionCase(case.kind, case.record, case.count, case.places, case.sums, case.order, None,
-                       tuple(reports + after_the_end))
+    return SessionCase(case.kind, case.record, case.count, case.places, case.sums, case.order,
+                       session_area(rng, rng.randbytes(planning.SESSION_SIZE), length), True, tuple(reports + after_the_end))
+
+
+def session_area(rng, content, length=None):
+    """An area with these bytes: of some length, or mostly just these, at times with others after them, at times cut short."""
+    lengths = (planning.SESSION_SIZE,) * 6 + (rng.randrange(planning.SESSION_SIZE), planning.SESSION_SIZE + rng.randint(1, 4))
+    return (content + rng.randbytes(4))[:rng.choice(lengths) if length is None else length]
+
+
+def session_content(rng, passed):
+    """Any byte but zero is a mark."""
+    return passed.to_bytes(planning.PASSED_SIZE, "little") + bytes(rng.choice((0, 0, 0, 0, 1, 255)) for _ in range(2))
 
 
 def opened_sessions(rng, count):
-    """Along plans that are safe for the most part, with empty and parted steps."""
-    cases = []
-    while len(cases) < count:
+    """Along plans that are safe for the most part, with empty and parted steps; of some the record is damaged."""
+    while count:
         plan = brought(rng, small_deal(rng))
         change = rng.choice((unchanged, state_doubled, empty_start, needless_step, state_changed))
         if plan.deal.is_plan(plan.steps) or rng.random() < 0.2:
-            cases.append(session_case(rng, "opened " + change.__name__, plan, change(rng, plan)))
-    return cases
+            case = session_case(rng, "opened " + change.__name__, plan, change(rng, plan))
+            yield with_damage(rng, case) if rng.random() < 0.05 else case
+            count -= 1
 
 
 def invented_sessions(rng, count):
     """Sessions that no opening produced, on plan bytes that no check has seen."""
-    cases = []
     for _ in range(count):
         steps = invented_steps(rng)
         places, sums = plan_areas(rng, steps)
-        passed = rng.choice((0, 0, *(rng.randint(0, len(steps)) for _ in range(5)), len(steps) + 1, MAX_U32))
-        session = (passed, rng.random() < 0.3, rng.random() < 0.3)
+        passed = rng.choice((0, 0, *(rng.randint(0, len(steps)) for _ in range(5)), len(steps) + 1, MAX_U32, 2 ** 32, MAX_U64))
         reports = disturbed(rng, fitting_reports(rng, steps, passed))[:rng.randint(4, 12)]
         reports += [near_entry(rng, steps, passed) for _ in range(2)]
         entries = min(len(places) // planning.PLACE_SIZE, len(sums) // planning.SUM_SIZE)
-        steps_count = rng.choice((len(steps),) * 12 + (0, entries, entries + 1, MAX_U32))
-        cases.append(SessionCase("invented", b"", steps_count, places, sums, bytes(planning.ORDER_SIZE), session,
-                                 tuple(reports)))
-    return cases
+        steps_count = rng.choice((len(steps),) * 12 + (0, entries, entries + 1, MAX_U32, MAX_U64))
+        yield SessionCase("invented", b"", steps_count, places, sums, bytes(planning.ORDER_SIZE),
+                          session_area(rng, session_content(rng, passed)), False, tuple(reports))
 
 
 def invented_steps(rng):
@@ -615,21 +654,19 @@ def near_entry(rng, steps, passed):
     return side, min(max(number, 0), MAX_U32)
 
 
+def session_lengths(rng):
+    """Every length of a session area about the ten bytes that it takes: to open, with a cut record too, under way, finished."""
+    plan = brought(rng, unit_by_unit(LADDER, (2,)))
+    for length in range(planning.SESSION_SIZE + 5):
+        case = session_case(rng, "session area", plan, plan.steps, length)
+        yield case
+        yield replace(case, record=case.record[:-1])
+        for passed in 0, case.count:
+            yield replace(case, area=session_area(rng, session_content(rng, passed), length), opens=False)
+
+
 def session_cases(seed, scale=1):
     rng = random.Random(seed)
-    long = brought(rng, unit_by_unit(150))
-    return [*opened_sessions(rng, 1_500 * scale), *invented_sessions(rng, 3_000 * scale),
-            session_case(rng, "opened, long", long, long.steps)]
-
-
-def unit_by_unit(units):
-    """A ladder with the most steps that a plan can have: payments and single units by turns, payments at both ends."""
-    return Contract(Header(2 * units, 1, 1, LADDER, units), [2] * units, [2] * units)
-
-
-def few_cases(seed):
-    """A small batch of each kind."""
-    rng = random.Random(seed)
-    return (example_plans(rng), [bounds_case(rng, small_deal(rng, form), False) for form in FORMS for _ in range(10)],
-            [check_case(rng, NAMES[form], brought(rng, small_deal(rng, form))) for form in FORMS for _ in range(10)],
-            [*opened_sessions(rng, 20), *invented_sessions(rng, 20)])
+    long = brought(rng, unit_by_unit(LADDER, (150,)))
+    return in_turn(session_lengths(rng), opened_sessions(rng, 1_500 * scale), invented_sessions(rng, 3_000 * scale),
+                   [session_case(rng, "opened, long", long, long.steps, planning.SESSION_SIZE)])

@@ -5,6 +5,7 @@ contract to write. Faulty records start as the list of a sound record's fields, 
 """
 import random
 from dataclasses import dataclass, replace
+from itertools import zip_longest
 
 import examples
 import record
@@ -12,7 +13,7 @@ from record import FORM_BIT, LADDER, MOST_ITEMS, MOST_ITEM_UNITS, MOST_MONEY, MO
 from record import Contract, Header
 
 FORMS = (LADDER, UNIT_PRICES, TABLE)
-MAX_U16, MAX_U32 = 2 ** 16 - 1, 2 ** 32 - 1
+MAX_U16, MAX_U32, MAX_U64 = 2 ** 16 - 1, 2 ** 32 - 1, 2 ** 64 - 1
 MOST_ENTRIES = 1_010   # the longest areas that the driver has
 MOST_ROOM = 8_100
 
@@ -301,44 +302,43 @@ def roomy(rng, kind, data):
 
 
 def example_cases(rng):
-    return [roomy(rng, "example", example.record) for example in examples.examples()]
+    return (roomy(rng, "example", example.record) for example in examples.examples())
 
 
 def sound_cases(rng):
-    return [roomy(rng, f"sound {name}", drafted(rng, some_contract(rng, form)).record())
-            for form, name in zip(FORMS, ("ladder", "unit prices", "table")) for _ in range(1_400)]
+    return (roomy(rng, f"sound {name}", drafted(rng, some_contract(rng, form)).record())
+            for _ in range(1_400) for form, name in zip(FORMS, ("ladder", "unit prices", "table")))
 
 
 def table_cases(rng):
     """The same table with its restorable cells blank, given, and mixed."""
-    cases = []
     for _ in range(600):
         contract = some_contract(rng, TABLE)
         for gives in lambda: False, lambda: True, lambda: rng.random() < 0.5:
-            cases.append(roomy(rng, "restorable cells", joined(fields_of(contract, gives))))
-    return cases
+            yield roomy(rng, "restorable cells", joined(fields_of(contract, gives)))
 
 
 def area_cases(rng):
     """Areas exactly as long as needed, one entry shorter, one longer."""
-    cases = []
     for _ in range(250):
         contract = some_contract(rng)
         m, n = len(contract.costs), len(contract.values)
         for more_m, more_n in (0, 0), (-1, 0), (0, -1), (-1, -1), (1, 1), (-m, -n):
-            cases.append(case(rng, "area lengths", joined(fields_of(contract)), m + more_m, n + more_n))
-    return cases
+            yield case(rng, "area lengths", joined(fields_of(contract)), m + more_m, n + more_n)
 
 
 def truncation_cases(rng):
     """Every cut of sound and of faulty records: a fault counts only from the end of its field on."""
-    records = [example.record for example in examples.examples() if len(example.record) < 120]
-    too_many_rows_before_last_item = table_of([200, 1])
-    records += [joined(fields_of(contract)) for contract in (*limit_counts(1), too_many_rows_before_last_item)]
+    records = [joined(fields_of(too_many_rows_early()))[:8], *(joined(fields_of(contract)) for contract in limit_counts(1))]
+    records += [example.record for example in examples.examples() if len(example.record) < 120]
     for form in FORMS:
         for faults in (), (), (spoil_value,), (spoil_amount,), (spoil_amount,), (spoil_count,), (spoil_count,):
             records += [faulty(rng, form, faults) for _ in range(5)]
-    return [roomy(rng, "truncation", data[:end]) for data in records for end in range(min(len(data), 110))]
+    yield from in_turn(*(cuts(rng, data) for data in records))
+
+
+def cuts(rng, data):
+    return (roomy(rng, "truncation", data[:end]) for end in reversed(range(min(len(data), 110))))
 
 
 def faulty(rng, form, faults):
@@ -349,42 +349,37 @@ def faulty(rng, form, faults):
 
 
 def fault_cases(rng, kind, faults_at_once, count):
-    cases = []
     for i in range(count):
         contract = some_contract(rng, FORMS[i % 3], standing=rng.random() < 0.8)
         draft = drafted(rng, contract)
         for fault in rng.sample(FAULTS, faults_at_once):
             fault(rng, draft)
-        cases.append(case(rng, kind, draft.record(), draft.m, draft.n))
-    return cases
+        yield case(rng, kind, draft.record(), draft.m, draft.n)
 
 
 def map_cases(rng):
     """Every pattern of the six low bits and each high bit, before fields that some of them ask for."""
     maps = [*range(64), *(1 << bit | 0x0F for bit in range(6, 16)), *(rng.getrandbits(16) for _ in range(126))]
-    return [roomy(rng, "bit map", bits.to_bytes(2, "little") + rng.randbytes(rng.randint(0, 30))) for bits in maps]
+    yield from (roomy(rng, "bit map", bits.to_bytes(2, "little") + rng.randbytes(rng.randint(0, 30))) for bits in maps)
 
 
 def random_cases(rng):
     """Random bytes, half of them after a map with one form."""
-    cases = []
     for i in range(3_000):
         data = rng.randbytes(rng.randint(0, 70))
         if i % 2:
             data = bytes([rng.getrandbits(3) | 1 << rng.randrange(3, 6), 0, *data[:3], 0, *(b & 7 for b in data[3:])])
-        cases.append(roomy(rng, "random bytes", data))
-    return cases
+        yield roomy(rng, "random bytes", data)
 
 
 def flip_cases(rng):
     """Each bit of three examples, and up to three bits of other records."""
     records = {example.name: example.record for example in examples.examples()}
-    cases = [flipped(rng, data, [bit]) for data in (records["case-a"], records["case-g"], records["table-3"])
-             for bit in range(8 * len(data))]
+    yield from (flipped(rng, data, [bit]) for data in (records["case-a"], records["case-g"], records["table-3"])
+                for bit in range(8 * len(data)))
     for _ in range(2_500):
         data = drafted(rng, some_contract(rng)).record()
-        cases.append(flipped(rng, data, rng.sample(range(8 * len(data)), rng.randint(1, 3))))
-    return cases
+        yield flipped(rng, data, rng.sample(range(8 * len(data)), rng.randint(1, 3)))
 
 
 def flipped(rng, data, bits):
@@ -394,16 +389,17 @@ def flipped(rng, data, bits):
 
 
 def limit_cases(rng):
-    """Amounts, totals, units and rows at their limits and one beyond, read and written."""
-    contracts = []
-    for over in 0, 1:
-        contracts += [*limit_amounts(MOST_MONEY + over), *limit_totals(MOST_MONEY + over), *limit_counts(over)]
-    cases = []
-    for contract in contracts:
+    """Contracts at their limits and one beyond, read and written."""
+    for contract in limit_contracts():
         second = Writing(contract.header, contract.costs, contract.values, 1_200)
         data = joined(fields_of(contract, lambda: True))
-        cases.append(case(rng, "limits", data, len(contract.costs), len(contract.values), second))
-    return cases
+        yield case(rng, "limits", data, len(contract.costs), len(contract.values), second)
+
+
+def limit_contracts():
+    """Amounts, totals, units and rows at their limits and one beyond."""
+    for over in 0, 1:
+        yield from (*limit_amounts(MOST_MONEY + over), *limit_totals(MOST_MONEY + over), *limit_counts(over))
 
 
 def limit_amounts(most):
@@ -429,6 +425,11 @@ def limit_counts(over):
         yield table_of(units)
 
 
+def too_many_rows_early():
+    """A table whose first item alone has too many rows."""
+    return table_of([200, 1])
+
+
 def table_of(units):
     rows = list(range(record.row_count(units)))
     return Contract(Header(form=TABLE, count=len(units), units=record.padded(units)), rows, rows)
@@ -436,7 +437,6 @@ def table_of(units):
 
 def large_cases(rng):
     """Ladders of about 1,000 units and tables of many rows."""
-    cases = []
     for units in (999, 1_000, 1_001) * 8:
         costs, values = ([rng.randint(0, MOST_MONEY // MOST_UNITS) for _ in range(units)] for _ in range(2))
         contract = Contract(Header(5, 6, 7, LADDER, units), costs, values)
@@ -444,20 +444,25 @@ def large_cases(rng):
         if rng.random() < 0.5:
             rng.choice(FAULTS)(rng, draft)
         second = Writing(contract.header, costs, values, rng.choice((8_016, 8_015, MOST_ROOM)))
-        cases.append(case(rng, "large", draft.record(), draft.m, draft.n, second))
+        yield case(rng, "large", draft.record(), draft.m, draft.n, second)
     for _ in range(300):
         count, units, costs, values = some_table(rng, least_rows=90)
         contract = Contract(Header(1, 2, 3, TABLE, count, record.padded(units)), costs, values)
-        cases.append(roomy(rng, "large", drafted(rng, contract).record()))
-    return cases
+        yield roomy(rng, "large", drafted(rng, contract).record())
 
 
 def all_cases(seed):
     rng = random.Random(seed)
-    return [*example_cases(rng), *sound_cases(rng), *table_cases(rng), *area_cases(rng), *truncation_cases(rng),
-            *fault_cases(rng, "one fault", 1, 2_400), *fault_cases(rng, "two faults", 2, 4_800),
-            *fault_cases(rng, "three faults", 3, 900), *map_cases(rng), *random_cases(rng), *flip_cases(rng),
-            *limit_cases(rng), *large_cases(rng)]
+    return in_turn(example_cases(rng), sound_cases(rng), table_cases(rng), area_cases(rng), truncation_cases(rng),
+                   fault_cases(rng, "one fault", 1, 2_400), fault_cases(rng, "two faults", 2, 4_800),
+                   fault_cases(rng, "three faults", 3, 900), map_cases(rng), random_cases(rng), flip_cases(rng),
+                   limit_cases(rng), large_cases(rng))
+
+
+def in_turn(*kinds):
+    """One of each kind in turn until all are through, so that a fault of any kind shows early."""
+    for some in zip_longest(*kinds):
+        yield from (one for one in some if one is not None)
 
 
 def few_cases():

@@ -136,7 +136,7 @@ def other_cases():
     expect(len(along[1]), 17, "the stock figure's order as a ladder")
     order = bytes(STOCK_ORDER).ljust(8, b"\0")
     expect(planned(unit_prices(STOCK_DEAL, STOCKS)), steps_reply(along[1], order), "the stock figure as unit prices")
-    longest = planning.plan_of(planning_cases.unit_by_unit(1_000))
+    longest = planning.plan_of(planning_cases.unit_by_unit(LADDER, (1_000,)))
     expect(len(longest[0]), 2_001, "2U + 1 steps")
 
 
@@ -287,23 +287,38 @@ def can_be_planned(contract):
 
 def generated_sessions(seed):
     for case in planning_cases.session_cases(seed):
-        if case.session is None:
+        if len(case.area) < 10:
+            short_session(case)
+        elif case.opens:
             opened_session(case)
         else:
             invented_session(case)
 
 
+def short_session(case):
+    """Whatever is asked, 8 and the same area; a record's own refusal stands ahead of it."""
+    plan = case.count, case.places, case.sums
+    read = record.parse(case.record)
+    expect(planning.open_in(case.area, case.record, *plan, case.order),
+           (read if isinstance(read, int) else 8, case.area), f"opening in a short area: {case}")
+    for reported in case.reports:
+        expect(planning.report_in(case.area, *plan, *reported), (8, case.area), f"a report to a short area: {case}")
+    expect(planning.finished_in(case.area, case.count), 8, f"finished, a short area: {case}")
+
+
 def opened_session(case):
     """Against a list of the moves that are outstanding, step by step."""
     plan = case.count, case.places, case.sums
-    number, session = planning.open(case.record, *plan, case.order)
+    number, area = planning.open_in(case.area, case.record, *plan, case.order)
     expect(number, planning.check(case.record, *plan, case.order), f"opening: {case}")
+    expect(number != 0, area == case.area, f"a refused opening leaves the area: {case}")
     if number == 0:
         replies = []
-        for side, value in case.reports:
-            number, session = planning.report(session, *plan, side, value)
-            replies.append((number, planning.finished(session, case.count)))
+        for reported in case.reports:
+            number, area = planning.report_in(area, *plan, *reported)
+            replies.append((number, planning.finished_in(area, case.count) == 1))
         expect(replies, list(outstanding_replies(*plan, case.reports)), f"reports: {case}")
+        expect(area[10:], case.area[10:], f"the area after a session: {case}")
 
 
 def plan_moves(count, places, sums):
@@ -315,27 +330,33 @@ def plan_moves(count, places, sums):
 
 
 def invented_session(case):
-    """Each report by itself: the same session on a refusal, else the open step marked or all done steps passed."""
+    """Each report by itself: the same area on a refusal, else the open step marked or all done steps passed."""
     plan = case.count, case.places, case.sums
     too_long = case.count > len(case.places) // 2 or case.count > len(case.sums) // 4
     moves = [] if too_long else plan_moves(*plan)
-    session = case.session
+    area = case.area
     for reported in case.reports:
-        at, *marks = session
+        at, *marks = struct.unpack_from("<Q??", area)
         outstanding = {move for move in moves[at] if not marks[move[0]]} if at < len(moves) else set()
         if too_long:
-            wanted = 8, session
+            wanted = 8, area
         elif at >= case.count:
-            wanted = 11, session
+            wanted = 11, area
         elif reported not in outstanding:
-            wanted = 10, session
+            wanted = 10, area
         elif len(outstanding) == 2:
-            wanted = 0, (at, reported[0] == DELIVERY, reported[0] == PAYMENT)
+            wanted = 0, session_at(area, at, reported[0] == DELIVERY, reported[0] == PAYMENT)
         else:
-            wanted = 0, (next((k for k in range(at + 1, case.count) if moves[k]), case.count), False, False)
-        got = planning.report(session, *plan, *reported)
-        expect(got, wanted, f"report {reported} to {session}: {case}")
-        session = got[1]
+            wanted = 0, session_at(area, next((k for k in range(at + 1, case.count) if moves[k]), case.count), False, False)
+        got = planning.report_in(area, *plan, *reported)
+        expect(got, wanted, f"report {reported} to {area}: {case}")
+        area = got[1]
+        at = struct.unpack_from("<Q", area)[0]
+        expect(planning.finished_in(area, case.count), int(at >= case.count), f"finished: {area} {case}")
+
+
+def session_at(area, passed, delivered, paid):
+    return struct.pack("<Q??", passed, delivered, paid) + area[10:]
 
 
 def outstanding_replies(count, places, sums, reports):

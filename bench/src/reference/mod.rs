@@ -145,7 +145,7 @@ pub fn report(session: &mut [u8], count: usize, places: &[u8], sums: &[u8], side
     })())
 }
 
-/// 1 if all steps are passed, else 0.
+/// 1 if all steps are passed, else 0; a short area is refused.
 pub fn finished(session: &[u8], count: usize) -> u32 {
-    session.first_chunk().is_some_and(|area| Session::load(area).finished(count)) as u32
+    session.first_chunk().map_or(SHORT, |area| Session::load(area).finished(count) as u32)
 }

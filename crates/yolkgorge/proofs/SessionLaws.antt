@@ -28,9 +28,9 @@ not-stored s t zero h = absurd (h refl)
 not-stored s t (suc n) h = (refl, refl)
 
 -- a short area holds no finished session
-pub none-finished : (s : List ℕ) (count : ℕ) → length s < 10 → 0 ≡ finishedIn s count
+pub short-finished : (s : List ℕ) (count : ℕ) → length s < 10 → 8 ≡ finishedIn s count
 unfolding finishedIn
-none-finished s count h = rw (lt-leb 10 (length s) h)
+short-finished s count h = rw (lt-leb 10 (length s) h)
 
 -- whether the session in an area is finished
 pub finished-is : (s : List ℕ) (count : ℕ) (t : Session) (b c : Bool) → 10 ≤ length s → t ≡ sessionIn s → b ≡ finishedBy count t → b ≡ c

@@ -53,6 +53,6 @@ reportBy count places sums s (suc (suc side)) n = reportNowhere count places sum
 unfoldable pub reportFrom : List ℕ → ℕ → List ℕ → List ℕ → ℕ → ℕ → Res Session
 reportFrom area count places sums side n = test 8 (hasSession area) (reportBy count places sums (sessionIn area) side n)
 
--- 1 if the session in an area is finished, else 0; 0 where the area is too short for one
+-- 1 if the session in an area is finished, else 0; 8 where the area is too short for one
 unfoldable pub finishedIn : List ℕ → ℕ → ℕ
-finishedIn area count = cond (hasSession area) (cond (finishedBy count (sessionIn area)) 1 0) 0
+finishedIn area count = cond (hasSession area) (cond (finishedBy count (sessionIn area)) 1 0) 8

@@ -86,13 +86,13 @@ pub extern "C" fn yolkgorge_report(
     resting::report_side(state, count, places, sums, named, number)
 }
 
-// Whether a session is finished by a plan with this count: 1 or 0.
+// Whether a session is finished by a plan with this count: 1 or 0, and 8 where the area is too short for a session.
 #[no_mangle]
 pub extern "C" fn yolkgorge_finished(state: &[u8], count: usize) -> u32
     ensures { λ r. ⌜ r ≡ finishedIn (now (state .entry)) count ⌝ }
 {
     if state.len() < 10 {
-        return 0;
+        return 8;
     }
     if resting::take(state).finished(count) {
         return 1;

@@ -42,7 +42,7 @@ pub(crate) fn keep(pair: &mut [u8], answer: Bounded) -> u32
     ensures { λ r. ⌜ LeavesBounds (boundedOf answer) r (now (pair .entry)) (now (pair .exit)) ⌝ }
 {
     match answer {
-        Bounded::Refused(e) => crate::numbers::refusal_number(e),
+        Bounded::Refused(e) => contract::number_of(e),
         Bounded::WrongOrder => 12,
         Bounded::Between(b) => {
             store_bounds(pair, b);

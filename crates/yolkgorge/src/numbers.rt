@@ -2,32 +2,14 @@
 ghost use mathlib.Core.Path.{_≡_};
 ghost use Prim.Native.Nat.{_<_, _^_};
 ghost use lib.IntN.{pos, negℤ};
-ghost use Rattle.contract.specs.Contract.{numberOf};
 ghost use Rattle.planning.specs.Answer.{answerOf, boundedOf, checkedOf};
 ghost use Rattle.session.specs.Session.{replied};
 ghost use Rattle.yolkgorge.specs.Number.{numberFor, codeOf, orShort, sideOf, CountFits};
-use contract::Refusal;
 use planning::Bounded;
 use planning::Checked;
 use planning::Planned;
 use session::Reply;
 use session::Side;
-
-// The paper's number of a refusal.
-pub(crate) fn refusal_number(e: Refusal) -> u32
-    ensures { λ r. ⌜ (r ≡ numberOf e) × (r < 9) ⌝ }
-{
-    match e {
-        Refusal::Truncated => 1,
-        Refusal::Map => 2,
-        Refusal::Value => 3,
-        Refusal::Limit => 4,
-        Refusal::Range => 5,
-        Refusal::Falling => 6,
-        Refusal::Trailing => 7,
-        Refusal::Short => 8,
-    }
-}
 
 // Minus a number.
 fn minus(number: u32) -> i64
@@ -50,7 +32,7 @@ pub(crate) fn steps_or_refusal(answer: Planned) -> i64
     ensures { λ r. ⌜ r ≡ numberFor (answerOf answer) ⌝ }
 {
     match answer {
-        Planned::Refused(e) => minus(refusal_number(e)),
+        Planned::Refused(e) => minus(contract::number_of(e)),
         Planned::Impossible => minus(9),
         Planned::Steps(n) => steps(n),
     }
@@ -61,7 +43,7 @@ pub(crate) fn check_number(answer: Checked) -> u32
     ensures { λ r. ⌜ r ≡ codeOf (checkedOf answer) ⌝ }
 {
     match answer {
-        Checked::Refused(e) => refusal_number(e),
+        Checked::Refused(e) => contract::number_of(e),
         Checked::Unsafe => 12,
         Checked::Accepted => 0,
     }
@@ -72,7 +54,7 @@ pub(crate) fn short_number(answer: Checked) -> u32
     ensures { λ r. ⌜ r ≡ codeOf (orShort (checkedOf answer)) ⌝ }
 {
     match answer {
-        Checked::Refused(e) => refusal_number(e),
+        Checked::Refused(e) => contract::number_of(e),
         Checked::Unsafe => 8,
         Checked::Accepted => 8,
     }
@@ -95,7 +77,7 @@ pub(crate) fn short_bounds(answer: Bounded) -> u32
     ensures { λ r. ⌜ r ≡ codeOf (orShort (boundedOf answer)) ⌝ }
 {
     match answer {
-        Bounded::Refused(e) => refusal_number(e),
+        Bounded::Refused(e) => contract::number_of(e),
         Bounded::WrongOrder => 8,
         Bounded::Between(_) => 8,
     }

@@ -1,12 +1,12 @@
 -- `yolkgorge::yolkgorge_finished` meets its contract, by the contracts of its callees. Assumes nothing.
 use denote.Ref.{now}
-use Rattle.yolkgorge.proofs.SessionLaws.{none-finished, finished-is}
+use Rattle.yolkgorge.proofs.SessionLaws.{short-finished, finished-is}
 use borrow.Author.Needs.{needs}
 use Rattle.yolkgorge.proofs.yolkgorge_finished.Statement.{statement}
 use Rattle.yolkgorge.proofs.yolkgorge_finished.Tie as tie
 
 returns : tie.Need-returns
-returns c = none-finished (now (c .before .before .args .state)) (c .before .before .args .count) (c .if1 .taken)
+returns c = short-finished (now (c .before .before .args .state)) (c .before .before .args .count) (c .if1 .taken)
 
 take-requires : tie.Need-take-requires
 take-requires c κs = search needs

@@ -8,8 +8,8 @@ use Rattle.yolkgorge.proofs.limits.keep.Tie as tie
 enum-known-answer : tie.Need-enum-known-answer
 enum-known-answer c = search needs
 
-refusal-number-requires : tie.Need-refusal-number-requires
-refusal-number-requires c κs = search needs
+number-of-requires : tie.Need-number-of-requires
+number-of-requires c κs = search needs
 
 enum-told : tie.Need-enum-told
 enum-told c = search needs
@@ -37,7 +37,7 @@ keep-spec =
     tie.close
     (tie.spec
     enum-known-answer
-    refusal-number-requires
+    number-of-requires
     enum-told
     enum-known-answer-2
     store-bounds-requires

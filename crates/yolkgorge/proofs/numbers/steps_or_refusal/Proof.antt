@@ -8,8 +8,8 @@ use Rattle.yolkgorge.proofs.numbers.steps_or_refusal.Tie as tie
 enum-known-answer : tie.Need-enum-known-answer
 enum-known-answer c = search needs
 
-refusal-number-requires : tie.Need-refusal-number-requires
-refusal-number-requires c κs = search needs
+number-of-requires : tie.Need-number-of-requires
+number-of-requires c κs = search needs
 
 minus-requires : tie.Need-minus-requires
 minus-requires c κs = search needs
@@ -27,7 +27,7 @@ steps-requires : tie.Need-steps-requires
 steps-requires c κs = rw (c .before .answer2 .given .1) at (c .before .before .before .pre)
 
 returns : tie.Need-returns
-returns c = toZ-ofZ (search needs) ∙ c .minus .ensures ∙ rw (c .before .before .before .answer .given .1, c .before .refusal-number .ensures .0)
+returns c = toZ-ofZ (search needs) ∙ c .minus .ensures ∙ rw (c .before .before .before .answer .given .1, c .before .number-of .ensures .0)
 
 returns-2 : tie.Need-returns-2
 returns-2 c = toZ-ofZ (search needs) ∙ c .minus2 .ensures ∙ rw (c .before .enum-told .given .1)
@@ -40,7 +40,7 @@ steps-or-refusal-spec =
     tie.close
     (tie.spec
     enum-known-answer
-    refusal-number-requires
+    number-of-requires
     minus-requires
     enum-told
     minus-requires-2

@@ -1,0 +1,153 @@
+"""Faults for copies of the reference program: what is wrong, the text that is right, and the faulty one.
+
+GROUPS has for each group the module that its faults are in, and the comparisons that have to find them.
+"""
+
+
+def dropped(text):
+    return text, ""
+
+
+def swapped(first, second):
+    return first + second, second + first
+
+
+# planning.py
+
+UNSAFE_START = "    if not deal.safe(*START):\n        return None\n    steps"
+ENTRIES_SHORT = "    if above_areas(count, places, sums) or len(order) < ORDER_SIZE:\n        return SHORT\n"
+ORDER_UNSAFE = "    items = items_in(contract, order)\n    if items is None:\n        return UNSAFE\n"
+AREA_AFTER_REPORT = "    return reply, area if reply else with_session(area, session)"
+
+PLANNING = (
+    ("upper bound without the supplier's leaving cost", "+ cost + header.supplier", "+ cost"),
+    ("lower bound with the buyer's leaving cost added", "+ value - header.buyer", "+ value + header.buyer"),
+    ("a plan of one step where the start is not safe", UNSAFE_START,
+     UNSAFE_START.replace("None", "[(deal.last, deal.price)]")),
+    ("a payment above the price", "- 1, min(deal.upper[place], deal.price)", "- 1, deal.upper[place]"),
+    ("delivers one place less far", "bisect_right(deal.lower, paid) - 1", "max(place, bisect_right(deal.lower, paid) - 2)"),
+    ("a delivery tested by the payment of its own step", "deal.lower[higher] <= paid and", "deal.lower[higher] <= pays and"),
+    ("a step may take units back", "if b > self.last or q < p or not self.holds(b, a):", "if b > self.last or q < p:"),
+    ("the payment is not tested before the delivery", "for place in (a, b) for paid in (p, q))",
+     "for place, paid in ((a, p), (b, p), (b, q)))"),
+    ("a plan need not end at the price", "path[-1] == (self.last, self.price)", "path[-1][0] == self.last"),
+    ("room for one entry less", "entries = 2 * all_units(contract) + 1", "entries = 2 * all_units(contract)"),
+    ("work area as it was after 9", "return places, sums, order, bytes(len(work))", "return places, sums, order, work"),
+    ("a remainder is cleared", 'written.ljust(whole, b"\\0") + area[whole:]', 'written.ljust(len(area), b"\\0")'),
+    ("finished one step early", "return session[0] >= count", "return session[0] + 1 >= count"),
+    ("a finished session answers 10", "        return FINISHED, session\n", "        return UNFIT, session\n"),
+    ("an empty step is not passed over", "0, passed_over((0, False, False), count, places, sums)", "0, (0, False, False)"),
+    ("8 after 12 in a check", *swapped(ENTRIES_SHORT, ORDER_UNSAFE)),
+    ("the last place has no bounds", "    if place > last_place(contract):\n", "    if place >= last_place(contract):\n"),
+    ("a refused report moves the session", AREA_AFTER_REPORT,
+     "    return reply, with_session(area, (session[0] + (reply == UNFIT), *session[1:]))"),
+    ("a refused report stores the marks anew", AREA_AFTER_REPORT, "    return reply, with_session(area, session)"),
+    ("0 for whether a short area is finished", "SHORT if len(area) < SESSION_SIZE", "0 if len(area) < SESSION_SIZE"),
+    ("nine bytes are enough for a session", "PASSED_SIZE, SESSION_SIZE = 8, 10", "PASSED_SIZE, SESSION_SIZE = 8, 9"),
+    ("8 for a session area ahead of the record's refusals",
+     " and isinstance(records.parse(record), Contract):\n        return SHORT, area", ":\n        return SHORT, area"),
+    ("only the byte 1 is a mark", "(mark != 0 for mark in", "(mark == 1 for mark in"),
+    ("four bytes of the steps passed are read", "int.from_bytes(area[:PASSED_SIZE]", "int.from_bytes(area[:4]"),
+    ("bytes after a session are cut off", "+ bytes(marks) + area[SESSION_SIZE:]", "+ bytes(marks)"),
+)
+
+# record.py, reading
+
+MOST_MONEY = "MOST_MONEY = 1_000_000_000"
+TRAILING = "    refuse(TRAILING, fields.rest)\n"
+FALLING = "    refuse(FALLING, form == TABLE and (falls(costs, units) or falls(values, units)))\n"
+LADDER_COUNT = "    count = fields.number_within(2, MOST_UNITS)\n"
+RISE, RISE_LIMIT = "            rises.append(fields.number(4))\n", "            refuse(LIMIT, sum(rises) > MOST_MONEY)\n"
+ALL_UNITS = "        refuse(RANGE, sum(units) > MOST_UNITS)\n"
+AMOUNT = "        for amounts in costs, values:\n            amounts.append(fields.number(4))\n"
+AMOUNT_LIMIT = "            refuse(LIMIT, total(units, amounts) > MOST_MONEY)\n"
+TABLE_UNITS = "    units = [fields.number_within(1, MOST_ITEM_UNITS) for _ in range(count)]\n"
+ROWS = "    refuse(RANGE, row_count(units) > MOST_ROWS)\n"
+COSTS = "    costs = parse_cells(fields, units)\n"
+BEYOND = "    refuse(VALUE, row_map >> rows)\n"
+ONES = "4 * row_map.bit_count()"
+BELOW = "for lower in rows_below(row, units)), default=0)"
+
+READING = (
+    ("two forms accepted", "len(forms) != 1)", "not forms)"),
+    ("no form accepted", "len(forms) != 1)\n    form = forms[0]", "len(forms) > 1)\n    form = (*forms, LADDER)[0]"),
+    ("bits 6 to 15 accepted", "bits >> FORM_BIT + 3 or len(forms) != 1", "len(forms) != 1"),
+    ("bit 15 accepted", "bits >> FORM_BIT + 3 or", "bits >> FORM_BIT + 3 & 511 or"),
+    ("a standing zero accepted", *dropped("    refuse(VALUE, amount == 0)\n")),
+    ("an amount over the limit accepted", *dropped("    refuse(LIMIT, amount > MOST_MONEY)\n")),
+    ("the limit one too high", MOST_MONEY, "MOST_MONEY = 1_000_000_001"),
+    ("the limit one too low", MOST_MONEY, "MOST_MONEY = 999_999_999"),
+    ("7 where a record ends inside a field", "(TRUNCATED, len(self.rest) < size)", "(TRAILING, len(self.rest) < size)"),
+    ("7 ahead of a ladder's amounts", LADDER_COUNT, LADDER_COUNT + "    refuse(TRAILING, len(fields.rest) > 8 * count)\n"),
+    ("bytes after the last field accepted", *dropped(TRAILING)),
+    ("6 ahead of 7", *swapped(TRAILING, FALLING)),
+    ("6 not tested for values", FALLING, FALLING.replace(" or falls(values, units)", "")),
+    ("6 not tested for costs", FALLING, FALLING.replace("falls(costs, units) or ", "")),
+    ("6 for an equal cell", "any(cells[row] < cells[lower]", "any(cells[row] <= cells[lower]"),
+    ("counts of 0 accepted", "not 1 <= number <= most", "number > most"),
+    ("a ladder of 1,001 units accepted", "(2, MOST_UNITS)", "(2, MOST_UNITS + 1)"),
+    ("a ladder of 1,000 units refused", "(2, MOST_UNITS)", "(2, MOST_UNITS - 1)"),
+    ("a ladder's totals tested at the end only", RISE + RISE_LIMIT,
+     RISE + "    refuse(LIMIT, max(sum(costs), sum(values)) > MOST_MONEY)\n"),
+    ("a ladder's amounts tested and not their total", RISE_LIMIT, RISE_LIMIT.replace("sum(rises)", "rises[-1]")),
+    ("255 units of an item refused", "MOST_ITEM_UNITS = 255", "MOST_ITEM_UNITS = 254"),
+    ("1,001 units of all items accepted", ALL_UNITS, ALL_UNITS.replace("MOST_UNITS", "MOST_UNITS + 1")),
+    ("1,000 units of all items refused", ALL_UNITS, ALL_UNITS.replace(">", ">=")),
+    ("the units of all items tested at the end only", ALL_UNITS + AMOUNT + AMOUNT_LIMIT, AMOUNT + AMOUNT_LIMIT + ALL_UNITS[4:]),
+    ("the totals of unit prices tested at the end only", AMOUNT_LIMIT,
+     "    refuse(LIMIT, max(total(units, costs), total(units, values)) > MOST_MONEY)\n"),
+    ("129 rows accepted", ROWS, ROWS.replace("MOST_ROWS", "MOST_ROWS + 1")),
+    ("128 rows refused", ROWS, ROWS.replace(">", ">=")),
+    ("the rows tested at each item", TABLE_UNITS + ROWS, "    units = []\n    for _ in range(count):\n"
+     "        units.append(fields.number_within(1, MOST_ITEM_UNITS))\n    " + ROWS),
+    ("the rows tested after the costs", *swapped(ROWS, COSTS)),
+    ("bits beyond the last row passed over", BEYOND, "    row_map &= 2 ** rows - 1\n"),
+    ("bits beyond the last row counted as cells", *dropped(BEYOND)),
+    ("a cell for each row", ONES, "4 * rows"),
+    ("the ones of all bytes but the last counted", ONES, "4 * (row_map & 2 ** (8 * map_size(rows) - 8) - 1).bit_count()"),
+    ("each cell a field of its own", f"Fields(fields.take({ONES}))", "fields"),
+    ("a cell over the limit accepted", *dropped("        refuse(LIMIT, cells[row] > MOST_MONEY)\n")),
+    ("a row map a byte too long", "return (rows + 7) // 8", "return rows // 8 + 1"),
+    ("a blank filled by items that have no unit there", "if row // stride % (n + 1) > 0:", "if row >= stride:"),
+    ("a blank filled by all rows before it", BELOW, "for lower in range(row)), default=0)"),
+    ("a blank filled by the row before it", BELOW, "for lower in range(row)[-1:]), default=0)"),
+    ("a blank filled by the smallest cell", "return max((cells[lower]", "return min((cells[lower]"),
+    ("the first item runs fastest", "for n in reversed(units):", "for n in units:"),
+)
+
+LENT = "(len(contract.costs) > m or len(contract.values) > n)"
+
+LENGTHS = (
+    ("8 by the costs only", LENT, "len(contract.costs) > m"),
+    ("an area just long enough refused", LENT, LENT.replace("> n", ">= n")),
+)
+
+# record.py, writing
+
+STANDING = "if cells[row] != filling(cells, row, units)]"
+INPUT_SHORT = "    refuse(SHORT, len(costs) < entries or len(values) < entries)\n"
+ENTRIES = "    costs, values = costs[:entries], values[:entries]\n"
+LIMIT = "    refuse(LIMIT, max(limited_amounts(header, units, costs, values)) > MOST_MONEY)\n"
+FALLING_GIVEN = "    refuse(FALLING, header.form == TABLE and (falls(costs, units) or falls(values, units)))\n"
+ITEM_UNITS = "all(1 <= n <= MOST_ITEM_UNITS for n in units)"
+
+WRITING = (
+    ("every cell written", STANDING, "]"),
+    ("a cell left blank that equals the one before", STANDING, "if cells[row] != max(cells[:row][-1:], default=0)]"),
+    ("a zero price written", "        if amount:\n", "        if amount or bit == 0:\n"),
+    ("8 for an input area after 4", INPUT_SHORT + ENTRIES + LIMIT,
+     LIMIT.replace("costs, values", "costs[:entries], values[:entries]") + INPUT_SHORT + ENTRIES),
+    ("6 ahead of 4", *swapped(LIMIT, FALLING_GIVEN)),
+    ("entries after those that count are tested", ENTRIES + LIMIT,
+     LIMIT.replace("max(limited_amounts(header, units, costs, values))", "max(costs)") + ENTRIES + LIMIT),
+    ("a ladder's amounts tested and not their total", "amounts + [sum(costs), sum(values)]", "amounts + costs + values"),
+    ("room just enough refused", "refuse(SHORT, len(record) > room)", "refuse(SHORT, len(record) >= room)"),
+    ("no units written", ITEM_UNITS, "all(n <= MOST_ITEM_UNITS for n in units)"),
+    ("units after the last item tested", ITEM_UNITS, "all(n <= MOST_ITEM_UNITS for n in header.units)"),
+    ("1,001 units of all items written", "and sum(units) > MOST_UNITS)", "and sum(units) > MOST_UNITS + 1)"),
+    ("129 rows written", "TABLE and row_count(units) > MOST_ROWS)", "TABLE and row_count(units) > MOST_ROWS + 1)"),
+)
+
+# the C library has ways of its own to a record, so the reader's rules have to be tried there too
+GROUPS = ((PLANNING, "planning", ("plans",)), (READING, "record", ("records", "plans")), (LENGTHS, "record", ("records",)),
+          (WRITING, "record", ("records",)))
