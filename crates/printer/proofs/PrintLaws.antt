@@ -1,5 +1,5 @@
 -- The printer's areas have room for every contract, and what planning leaves in them has room in the text. Assumes nothing.
-use mathlib.Core.Path.{_≡_, ap}
+use mathlib.Core.Path.{_≡_, sym, ap}
 use mathlib.Core.List.{List, []}
 use Prim.Native.Nat.{ℕ, _+_, _*_, _-_, _≤_}
 use native.Mathlib.Omega.{arith}
@@ -12,6 +12,7 @@ use Rattle.area.proofs.Laws.{entries-length}
 use Rattle.contract.specs.Res.{Res, refused, ok}
 use Rattle.contract.specs.Contract.{Contract, numberOf}
 use Rattle.contract.specs.declared.Refusal.{Refusal}
+use Rattle.contract.proofs.ParsedValid.ResLaws.{never}
 use Rattle.exchange.specs.Deal.{State}
 use Rattle.exchange.specs.PlanIn.{planIn}
 use Rattle.planning.specs.Answer.{answerOf}
@@ -46,7 +47,7 @@ listed k n after s =
 -- the steps that planning counts stand in the areas
 pub counted : (said : Res Contract) (answer : Res ℕ) (after : Areas) → Plans said answer lent after → Counted answer (after .places) (after .sums)
 counted said (refused e) after p = tt
-counted (refused e) (ok n) after p = let same = p .0 in let z : _≡_ {A = ℕ} 0 1 = cc in absurd (omega arith)
+counted (refused e) (ok n) after p = never (sym (p .0))
 counted (ok k) (ok n) after p = listed k n after p
 
 -- ---- the text of each answer

@@ -19,7 +19,7 @@ use Rattle.contract.specs.Serialize.{formBits}
 use Rattle.contract.specs.Table.{tableAt, tableContract, tableEnd, tableBody, unitsOf, cellsOf}
 use Rattle.contract.specs.Valid.{sum}
 use Rattle.contract.specs.declared.Form.{Form}
-use Rattle.contract.proofs.ParsedValid.ResLaws.{ok-inv, bind-inv, test-inv, Gives, passed}
+use Rattle.contract.proofs.ParsedValid.ResLaws.{never, refused-inv, ok-inv, bind-inv, test-inv, Gives, passed}
 use Rattle.contract.proofs.ParsedValid.FieldLaws.{amount-gives}
 use Rattle.record.specs.Find.{LadderFound, soughtAt, sought, OtherFound}
 use Rattle.record.specs.View.Head.{LadderHead}
@@ -144,13 +144,6 @@ other-found s h f e q other =
 
 -- ---- refusals
 
-pub refused-inv : {A : Type 0} {m n : ℕ} → _≡_ {A = Res A} (refused m) (refused n) → m ≡ n
-refused-inv e = cc
-
--- no answer is a refusal
-pub never : {A X : Type 0} {n : ℕ} {a : A} → ok a ≡ refused n → X
-never e = let z : _≡_ {A = ℕ} 0 1 = cc in absurd (omega arith)
-
 -- a head that is refused is all that finding reads
 pub head-refused : (s : List ℕ) {n : ℕ} → headAt s ≡ refused n → sought s ≡ refused n
 unfolding sought
@@ -163,12 +156,12 @@ sought-refused s {n} e = go (headAt s) e
   where
     ladder : (h : Head) (r : Res Contract) → bind r (λ k. ok h) ≡ refused n → r ≡ refused n
     ladder h (refused m) e = ap refused (refused-inv e)
-    ladder h (ok k) e = never e
+    ladder h (ok k) e = never (sym e)
 
     at : (f : Form) (h : Head) → soughtAt f s h ≡ refused n → bodyAt f s h ≡ refused n
     at Form.Ladder h e = ladder h (segmentBody false s h) e
-    at Form.UnitPrices h e = never e
-    at Form.Table h e = never e
+    at Form.UnitPrices h e = never (sym e)
+    at Form.Table h e = never (sym e)
 
     go : (r : Res Head) → bind r (λ h. soughtAt (h .form) s h) ≡ refused n → bind r (λ h. bodyAt (h .form) s h) ≡ refused n
     go (refused m) e = ap refused (refused-inv e)

@@ -12,11 +12,11 @@ use Rattle.contract.specs.Contract.{Contract, numberOf}
 use Rattle.contract.specs.Valid.{sum}
 use Rattle.contract.specs.declared.Refusal.{Refusal}
 use Rattle.contract.specs.declared.Refusal.the-variants.{Truncated, Map, Value, Limit, Range, Falling, Trailing, Short}
-use Rattle.contract.proofs.ParsedValid.ResLaws.{ok-inv}
+use Rattle.contract.proofs.ParsedValid.ResLaws.{never, refused-inv, ok-inv}
 use Rattle.record.specs.Find.{LadderFound, OtherFound, ladderIn, Finds, sought}
 use Rattle.record.specs.declared.Ladder.{Ladder}
 use Rattle.record.specs.declared.Found.{Found}
-use Rattle.record.proofs.FindLaws.{refused-inv, never, sought-refused, other-none}
+use Rattle.record.proofs.FindLaws.{sought-refused, other-none}
 
 -- ---- refusals
 
@@ -65,10 +65,10 @@ same-ladder s l m f g =
 -- ---- all answers
 
 refused-ladder : (s : List ℕ) {n : ℕ} (l : Ladder) → sought s ≡ refused n → LadderFound s l → {X : Type 0} → X
-refused-ladder s l p f = never (sym (f .says) ∙ sought-refused s p)
+refused-ladder s l p f = never (sym (sought-refused s p) ∙ f .says)
 
 refused-other : (s : List ℕ) {n : ℕ} → sought s ≡ refused n → OtherFound s → {X : Type 0} → X
-refused-other s p o = never (sym (o .says) ∙ p)
+refused-other s p o = never (sym p ∙ o .says)
 
 ladder-other : (s : List ℕ) (l : Ladder) → LadderFound s l → OtherFound s → {X : Type 0} → X
 ladder-other s l f o = absurd (other-none s o (ladderIn s l) (f .says) refl)

@@ -6,8 +6,11 @@ use native.Mathlib.Omega.{arith}
 use Rattle.contract.specs.Res.{Res, refused, ok, bind, test}
 
 -- a refusal is no answer
-never : {A X : Type 0} {n : ℕ} {a : A} → refused n ≡ ok a → X
+pub never : {A X : Type 0} {n : ℕ} {a : A} → refused n ≡ ok a → X
 never e = let z : _≡_ {A = ℕ} 0 1 = cc in absurd (omega arith)
+
+pub refused-inv : {A : Type 0} {m n : ℕ} → _≡_ {A = Res A} (refused m) (refused n) → m ≡ n
+refused-inv e = cc
 
 pub ok-inv : {A : Type 0} {a b : A} → ok a ≡ ok b → a ≡ b
 ok-inv e = cc
