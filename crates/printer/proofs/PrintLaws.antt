@@ -21,16 +21,16 @@ use Rattle.planning.specs.Promise.{Plans, Success}
 use Rattle.planning.specs.declared.Planned.{Planned}
 use Rattle.text.specs.Text.{text}
 use Rattle.text.specs.Code.{Room}
-use Rattle.printer.specs.Printout.{textFor, lent}
+use Rattle.printer.specs.Printout.{textFor, placesLent, sumsLent, workLent, lent}
 use Rattle.printer.specs.Code.{Listed, Counted}
 
 -- the printer's areas are enough for every contract
 pub roomy : Roomy lent
 unfolding hasRoom
 roomy =
-    let in-places : 2 * 1000 + 1 ≤ length (entries 2 (lent .places)) = omega (arith, entries-length 2 (lent .places), length-replicate {A = ℕ} 4002 0) in
-    let in-sums : 2 * 1000 + 1 ≤ length (entries 4 (lent .sums)) = omega (arith, entries-length 4 (lent .sums), length-replicate {A = ℕ} 8004 0) in
-    let work : 128 * 256 ≤ length (lent .work) = omega (arith, length-replicate {A = ℕ} 32768 0) in
+    let in-places : 2 * 1000 + 1 ≤ length (entries 2 (lent .places)) = omega (arith, entries-length 2 (lent .places), length-replicate {A = ℕ} placesLent 0) in
+    let in-sums : 2 * 1000 + 1 ≤ length (entries 4 (lent .sums)) = omega (arith, entries-length 4 (lent .sums), length-replicate {A = ℕ} sumsLent 0) in
+    let work : 128 * 256 ≤ length (lent .work) = omega (arith, length-replicate {A = ℕ} workLent 0) in
     rw (le-leb _ _ in-places, le-leb _ _ in-sums, le-leb _ _ work)
 
 -- what an area is filled with stands in it
@@ -42,7 +42,7 @@ listed k n after s =
     let ours = planIn n (after .places) (after .sums) in
     let in-places : n ≤ length (entries 2 (after .places)) = omega (arith, s .ours .steps, length-map ours (λ (t : State). t .place), filled-holds 2 _ _ _ (s .places)) in
     let in-sums : n ≤ length (entries 4 (after .sums)) = omega (arith, s .ours .steps, length-map ours (λ (t : State). t .paid), filled-holds 4 _ _ _ (s .sums)) in
-    record { in-places = in-places; in-sums = in-sums; few = omega (arith, entries-length 2 (after .places), s .places .length-kept, length-replicate {A = ℕ} 4002 0) }
+    record { in-places = in-places; in-sums = in-sums; few = omega (arith, entries-length 2 (after .places), s .places .length-kept, length-replicate {A = ℕ} placesLent 0) }
 
 -- the steps that planning counts stand in the areas
 pub counted : (said : Res Contract) (answer : Res ℕ) (after : Areas) → Plans said answer lent after → Counted answer (after .places) (after .sums)

@@ -20,9 +20,25 @@ planOf (ok n) places sums = planIn n places sums
 abbrev pub textFor : Res ℕ → List ℕ → List ℕ → List ℕ
 textFor answer places sums = text answer (planOf answer places sums)
 
--- the areas that the printer lends to planning: 2,001 places, 2,001 sums, eight order bytes, and the work bytes of 128 rows
+-- how many bytes the printer lends to planning: for 2,001 places
+abbrev pub placesLent : ℕ
+placesLent = 4002
+
+-- for 2,001 sums
+abbrev pub sumsLent : ℕ
+sumsLent = 8004
+
+-- for the order
+abbrev pub orderLent : ℕ
+orderLent = 8
+
+-- and for the work of 128 rows
+abbrev pub workLent : ℕ
+workLent = 32768
+
+-- the areas that it lends, all zero
 abbrev pub lent : Areas
-lent = areas (replicate 4002 0) (replicate 8004 0) (replicate 8 0) (replicate 32768 0)
+lent = areas (replicate placesLent 0) (replicate sumsLent 0) (replicate orderLent 0) (replicate workLent 0)
 
 -- the area begins with the text of an answer and a plan that keep the promise of planning; all later bytes are as they were. No refusal but the
 -- record's own stands ahead of 9: the printer's areas are never too short
