@@ -2,12 +2,12 @@
 use mathlib.Core.Path.{_≡_, refl, sym, ap, _∙_}
 use mathlib.Core.Bool.{cond}
 use mathlib.Core.List.{List}
-use Prim.Native.Nat.{ℕ, _+_, _*_}
+use Prim.Native.Nat.{ℕ}
 use native.Mathlib.Omega.{arith}
 use lib.Dec.{eqb}
 use lib.ListN.{length}
 use Rattle.area.proofs.Laws.{column-length}
-use Rattle.contract.specs.Res.{refused, ok}
+use Rattle.contract.specs.Res.{refused}
 use Rattle.contract.specs.Contract.{Contract, numberOf}
 use Rattle.contract.specs.Valid.{sum}
 use Rattle.contract.specs.declared.Refusal.{Refusal}

@@ -2,7 +2,6 @@
 use Prim.Native.Nat.{_-_}
 use native.Mathlib.Omega.{arith}
 use borrow.Author.Needs.{needs}
-use Rattle.area.proofs.PutLaws.{puts-length}
 use Rattle.text.proofs.Fields.{Lining, lining-starts, lining-turn, lining-ends}
 use Rattle.text.proofs.steps.put_steps.Statement.{statement}
 use Rattle.text.proofs.steps.put_steps.Tie as tie
