@@ -1,4 +1,5 @@
-/* A desk: plans the deal of a record file, shows bounds and plan, and carries the plan out step by step.
+/* A desk: plans the deal of a record file, shows bounds and plan, says what plans that spare transfers or deliveries have to
+ * offer, and carries the plan out step by step.
  * usage: desk RECORD */
 #include <inttypes.h>
 #include <stdio.h>
@@ -30,6 +31,32 @@ static void show_bounds(uint32_t place) {
         printf("bounds of place %" PRIu32 ": refused %" PRIu32 "\n", place, refusal);
     else
         printf("bounds of place %" PRIu32 ": paid from %" PRId64 " to %" PRId64 "\n", place, signed_at(bounds), signed_at(bounds + 8));
+}
+
+/* Plans for a bank that charges for each transfer, for a courier that charges for each delivery, and for both. */
+typedef int64_t sparing_planner(const uint8_t *, size_t, uint8_t *, size_t, uint8_t *, size_t, uint8_t *, size_t);
+static const struct {
+    const char *name;
+    sparing_planner *plan;
+} offers[] = {{"payments", yolkgorge_plan_fewest_payments},
+              {"deliveries", yolkgorge_plan_fewest_deliveries},
+              {"moves", yolkgorge_plan_fewest_moves}};
+
+static void show_offer(const char *name, sparing_planner *plan) {
+    static uint8_t own_places[sizeof places], own_sums[sizeof sums], own_order[sizeof order];
+    uint32_t place = 0, paid = 0, payments = 0, deliveries = 0;
+    int64_t answer = plan(record, length, own_places, sizeof own_places, own_sums, sizeof own_sums, own_order, sizeof own_order);
+    for (size_t k = 0; (int64_t)k < answer; k++) {
+        uint32_t next_place = yolkgorge_place_at(own_places, k), next_paid = yolkgorge_sum_at(own_sums, k);
+        payments += next_paid > paid;
+        deliveries += next_place > place;
+        place = next_place;
+        paid = next_paid;
+    }
+    if (answer < 0) /* a table: these plans are for ladders and unit prices */
+        printf("fewest %s: refused %" PRId64 "\n", name, -answer);
+    else
+        printf("fewest %s: %" PRIu32 " payments, %" PRIu32 " deliveries\n", name, payments, deliveries);
 }
 
 /* A report, and what the ledger says to it. */
@@ -84,5 +111,6 @@ int main(int argc, char **argv) {
     show_bounds(yolkgorge_place_at(places, count - 1));
     for (size_t k = 0; k < count; k++)
         printf("step %zu: place %" PRIu32 ", paid %" PRIu32 "\n", k + 1, yolkgorge_place_at(places, k), yolkgorge_sum_at(sums, k));
+    for (size_t i = 0; i < sizeof offers / sizeof *offers; i++) show_offer(offers[i].name, offers[i].plan);
     return carry_out();
 }

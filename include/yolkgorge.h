@@ -29,7 +29,8 @@ extern "C" {
 /* Refusals, and what to do about them. */
 enum {
     YOLKGORGE_TRUNCATED = 1,  /* the record ends inside a field: pass the whole record */
-    YOLKGORGE_MAP = 2,        /* its bit map names no form, two forms, or an unknown bit: not a record of this version */
+    YOLKGORGE_MAP = 2,        /* its bit map names no form, two forms, or an unknown bit: not a record of this version;
+                                 or it is a table, where a plan with fewest payments, deliveries or moves is asked for */
     YOLKGORGE_VALUE = 3,      /* a price or defection cost that is stated is zero, or a bit stands beyond a table's last row */
     YOLKGORGE_LIMIT = 4,      /* an amount or a total is above 1,000,000,000: state it in larger coins */
     YOLKGORGE_RANGE = 5,      /* a count of units, items or rows is out of range, or a place is above the last one */
@@ -73,6 +74,24 @@ static inline uint32_t yolkgorge_sum_at(const uint8_t *sums, size_t k) {
  * No safe plan in that order has fewer steps; for a table, no safe plan in any order. */
 int64_t yolkgorge_plan(const uint8_t *record, size_t record_len, uint8_t *places, size_t places_len, uint8_t *sums,
                        size_t sums_len, uint8_t *order, size_t order_len, uint8_t *work, size_t work_len);
+
+/* Plans a ladder or unit prices where each transfer or each delivery costs something. A payment is a step in which the paid
+ * total rises, a delivery one in which the place rises; moves are payments and deliveries together. Of all safe plans in the
+ * same order, however long,
+ *   yolkgorge_plan_fewest_payments    has as few payments as any: it starts with a delivery only;
+ *   yolkgorge_plan_fewest_deliveries  has as few deliveries as any: it starts with a payment only;
+ *   yolkgorge_plan_fewest_moves       has as few moves as any: it is the one of these two with fewer moves, and the one that
+ *                                     starts with a payment if both have equally many.
+ * They may take more steps than yolkgorge_plan, but at most YOLKGORGE_MOST_STEPS(U).
+ *
+ * Answers and areas are those of yolkgorge_plan, without a work area: the number of steps, or minus the number of a refusal
+ * (1 to 9; 2 also for every table, ahead of 8: ask yolkgorge_plan). 9 means here as there that no safe plan exists at all. */
+int64_t yolkgorge_plan_fewest_payments(const uint8_t *record, size_t record_len, uint8_t *places, size_t places_len,
+                                       uint8_t *sums, size_t sums_len, uint8_t *order, size_t order_len);
+int64_t yolkgorge_plan_fewest_deliveries(const uint8_t *record, size_t record_len, uint8_t *places, size_t places_len,
+                                         uint8_t *sums, size_t sums_len, uint8_t *order, size_t order_len);
+int64_t yolkgorge_plan_fewest_moves(const uint8_t *record, size_t record_len, uint8_t *places, size_t places_len,
+                                    uint8_t *sums, size_t sums_len, uint8_t *order, size_t order_len);
 
 /* Checks a plan of `count` steps from wherever it comes. Answers 0 if it is a safe plan of the deal along the order that
  * its order bytes name, else the number of a refusal (1 to 8, 12). */

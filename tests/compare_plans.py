@@ -1,4 +1,4 @@
-"""Compares the verified planner, check and session with the reference program, through the C library: every answer, every
+"""Compares the verified planners, check and session with the reference program, through the C library: every answer, every
 byte of every area, every session.
 
 usage: python3 tests/compare_plans.py [--seed N] [--scale N]
@@ -17,6 +17,9 @@ import examples  # noqa: E402  (needs the folder above)
 import library  # noqa: E402
 import planning  # noqa: E402
 import planning_cases  # noqa: E402
+import record as records  # noqa: E402
+import sparing  # noqa: E402
+import sparing_cases  # noqa: E402
 from library import BOUNDS_BYTES  # noqa: E402
 from record_cases import in_turn  # noqa: E402
 
@@ -24,13 +27,18 @@ EXAMPLES = Path(__file__).resolve().parent.parent / "examples/records"
 # the examples and what the paper says of them: a refusal, or the step count
 PLANNED = {"case-a": 5, "case-b": -9, "case-c": 4, "case-d": -9, "case-e": 1, "case-f": 5, "case-g": 4, "case-h": -9,
            "case-k-short": -1, "case-k-long": -7, "ladder-1001": -5, "total-over": -4, "table-3": 5, "stock-ladder": 17}
+# the same for fewest payments, deliveries and moves, worked out by hand
+SPARED = {"case-a": (5, 5, 5), "case-b": (-9,) * 3, "case-c": (4, 4, 4), "case-e": (1, 1, 1), "case-f": (-2,) * 3, "case-g": (4, 5, 4),
+          "case-h": (-9,) * 3, "case-k-short": (-1,) * 3, "case-k-long": (-7,) * 3, "table-3": (-2,) * 3, "total-largest": (2, 2, 2)}
 # examples that the paper only says are read: the longest ladder, and the greatest totals
 READ = ("ladder-1000", "total-largest")
 # the plan that the published method prints for its table 3
 PRINTED_PLAN = [(2, 5), (3, 14), (4, 18), (4, 22), (9, 22)]
 # the answers that each entry can give; all must come up
-ANSWERS = {"plan": (*range(-9, 0), "made"), "bounds": (*range(9), 12), "check": (*range(9), 12), "open": (*range(9), 12),
+PLAN_ANSWERS = *range(-9, 0), "made"
+ANSWERS = {"plan": PLAN_ANSWERS, "bounds": (*range(9), 12), "check": (*range(9), 12), "open": (*range(9), 12),
            "report": (0, 8, 10, 11), "finished": (0, 1, 8)}
+ANSWERS |= {f"fewest {goal}": (*PLAN_ANSWERS, "-2 for a table") for goal in sparing.GOALS}
 
 
 class Difference(Exception):
@@ -55,6 +63,10 @@ def planned(lib, record):
 def example_plans(lib):
     for name, wanted in PLANNED.items():
         same(name, "the answer to planning", planned(lib, example(name))[0], wanted)
+        yield "example"
+    for name, wanted in SPARED.items():
+        answers = [lib.plan_fewest(goal, example(name), bytes(9_000), bytes(9_000), bytes(8))[0] for goal in sparing.GOALS]
+        same(name, "the answers for fewest payments, deliveries, moves", answers, list(wanted))
         yield "example"
     for name in READ:
         answer = lib.bounds(example(name), 0, bytes(8), bytes(BOUNDS_BYTES))[0]
@@ -94,15 +106,28 @@ def two_orders(lib):
 
 
 def plans(lib, seed, scale):
-    for case in planning_cases.plan_cases(seed, scale):
-        areas = (case.places, case.sums, case.order, case.work)
-        reply = planning.plan(case.record, *map(len, areas))
-        answer, record, after = lib.plan(case.record, *areas)
-        number = -reply[1] if reply[0] == "refused" else len(reply[1])
-        same(case.kind, "the answer to planning", answer, number, case)
-        same(case.kind, "the record after planning", record, case.record)
-        same(case.kind, "an area after planning", after, planning.areas_after(case.record, reply, *areas), case)
-        yield f"plan {number if number < 0 else 'made'}"
+    """Each case through all four planners: the work area is the first one's only."""
+    for case in in_turn(planning_cases.plan_cases(seed, scale), sparing_cases.sparing_cases(seed, scale)):
+        areas = (case.places, case.sums, case.order)
+        reply = planning.plan(case.record, *map(len, areas), len(case.work))
+        wanted = planning.areas_after(case.record, reply, *areas, case.work)
+        yield f"plan {planner(case, 'planning', lib.plan(case.record, *areas, case.work), reply, wanted)}"
+        for goal in sparing.GOALS:
+            reply = sparing.plan(goal, case.record, *map(len, areas))
+            wanted = sparing.areas_after(case.record, reply, *areas)
+            answer = planner(case, f"planning with fewest {goal}", lib.plan_fewest(goal, case.record, *areas), reply, wanted)
+            for_a_table = answer == -2 and isinstance(records.parse(case.record), records.Contract)
+            yield f"fewest {goal} {answer}{' for a table' if for_a_table else ''}"
+
+
+def planner(case, what, got, reply, areas):
+    """Holds the answer, the record and all areas to the reference's reply; a refusal with its sign, or 'made'."""
+    answer, record, after = got
+    number = -reply[1] if reply[0] == "refused" else len(reply[1])
+    same(case.kind, f"the answer to {what}", answer, number, case)
+    same(case.kind, f"the record after {what}", record, case.record)
+    same(case.kind, f"an area after {what}", after, areas, case)
+    return number if number < 0 else "made"
 
 
 def bounds(lib, seed, scale):

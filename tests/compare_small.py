@@ -1,9 +1,11 @@
-"""Holds the verified planner, called through the C library, against all safe plans of small deals, in all orders of their
-units: whether a plan exists, that ours is safe and has the fewest steps, and that along our order nobody is ever ahead.
+"""Holds the verified planners, called through the C library, against all safe plans of small deals: for planning in all orders of
+their units whether a plan exists, that ours is safe and has the fewest steps, and that along our order nobody is ever ahead; for
+the plans that spare payments, deliveries or moves that no safe plan in the same order has fewer.
 
-usage: python3 tests/compare_small.py [--seed N] [--deals N]
+usage: python3 tests/compare_small.py [--seed N] [--deals N] [--sparing-deals N]
 
-Needs target/staticlib/libyolkgorge.a (`rt staticlib yolkgorge`). Ends with status 1 and an explanation at the first fault.
+Needs target/staticlib/libyolkgorge.a (`rt staticlib yolkgorge`). Ends with status 1 and an explanation at the first fault, or
+where some kind of deal came up too rarely.
 """
 import argparse
 import random
@@ -18,15 +20,20 @@ import brute  # noqa: E402  (needs the folder above)
 import library  # noqa: E402
 import planning_cases  # noqa: E402
 import record  # noqa: E402
+import sparing_cases  # noqa: E402
+from planning_cases import NAMES  # noqa: E402
+from record import LADDER, UNIT_PRICES  # noqa: E402
 from record_cases import FORMS  # noqa: E402
 
 ROOM = 256  # bytes, enough for every area of a small deal
 
 
-def planned(lib, contract):
+def record_of(contract):
+    return record.write(contract.header, contract.costs, contract.values, ROOM)
+
+
+def found(contract, count, places, sums, order):
     """(steps, items), or None where the library says that no plan exists."""
-    content = record.write(contract.header, contract.costs, contract.values, ROOM)
-    count, _, (places, sums, order, _) = lib.plan(content, bytes(ROOM), bytes(ROOM), bytes(8), bytes(ROOM))
     if count == -9:
         return None
     if count < 0:
@@ -35,23 +42,57 @@ def planned(lib, contract):
     return steps, tuple(item for item in order if item)
 
 
+def planned(lib, contract):
+    count, _, (places, sums, order, _) = lib.plan(record_of(contract), bytes(ROOM), bytes(ROOM), bytes(8), bytes(ROOM))
+    return found(contract, count, places, sums, order)
+
+
+def spared(lib, contract, goal):
+    count, _, areas = lib.plan_fewest(goal, record_of(contract), bytes(ROOM), bytes(ROOM), bytes(8))
+    return found(contract, count, *areas)
+
+
+def hold(contract, judged, shown):
+    for what, got, wanted in judged:
+        if got != wanted:
+            sys.exit(f"{what}: the library has {got}, all plans say {wanted}: {contract} {shown}")
+
+
+def small_deals(lib, rng, deals):
+    for form in FORMS:
+        for _ in range(deals):
+            contract = planning_cases.tiny_deal(rng, form)
+            plan = planned(lib, contract)
+            hold(contract, brute.judged(contract, plan), plan)
+            yield f"{NAMES[form]}, {'planned' if plan else 'impossible'}"
+
+
+def sparing_deals(lib, rng, deals):
+    """The three sparing plans of each deal; how many deals of each kind there were."""
+    for form in LADDER, UNIT_PRICES:
+        seen = Counter()
+        for _ in range(deals):
+            contract = sparing_cases.small_deal(rng, form)
+            plans = {goal: spared(lib, contract, goal) for goal in library.GOALS}
+            hold(contract, brute.judged_sparing(contract, plans), plans)
+            seen[brute.starts_kind(contract, plans)] += 1
+        rare = [kind for kind in brute.START_KINDS if seen[kind] < deals / 30]
+        if rare:
+            sys.exit(f"too few of the kinds {rare}: {seen}")
+        yield from (f"{NAMES[form]}, sparing, {kind}" for kind in seen.elements())
+
+
 def main():
     words = argparse.ArgumentParser(description=__doc__, formatter_class=argparse.RawDescriptionHelpFormatter)
     words.add_argument("--seed", type=int, default=2)
     words.add_argument("--deals", type=int, default=4_000, help="of each form")
+    words.add_argument("--sparing-deals", type=int, default=5_000, help="of each form but tables, each with three plans")
     words = words.parse_args()
     rng = random.Random(words.seed)
-    seen = Counter()
     with tempfile.TemporaryDirectory() as folder:
         lib = library.Library(library.build(folder))
-        for form in FORMS:
-            for _ in range(words.deals):
-                contract = planning_cases.tiny_deal(rng, form)
-                found = planned(lib, contract)
-                for what, got, wanted in brute.judged(contract, found):
-                    if got != wanted:
-                        sys.exit(f"{what}: the library has {got}, all plans say {wanted}: {contract} {found}")
-                seen[f"{planning_cases.NAMES[form]}, {'planned' if found else 'impossible'}"] += 1
+        seen = Counter(small_deals(lib, rng, words.deals))
+        seen.update(sparing_deals(lib, rng, words.sparing_deals))
     for name, count in sorted(seen.items()):
         print(f"{count:8} {name}")
     print(f"{sum(seen.values())} small deals held against all their plans")

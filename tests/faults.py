@@ -14,7 +14,7 @@ def swapped(first, second):
 
 # planning.py
 
-UNSAFE_START = "    if not deal.safe(*START):\n        return None\n    steps"
+UNSAFE_START = "    if not deal.safe(*START):\n        return None\n    return steps"
 ENTRIES_SHORT = "    if above_areas(count, places, sums) or len(order) < ORDER_SIZE:\n        return SHORT\n"
 ORDER_UNSAFE = "    items = items_in(contract, order)\n    if items is None:\n        return UNSAFE\n"
 AREA_AFTER_REPORT = "    return reply, area if reply else with_session(area, session)"
@@ -49,6 +49,58 @@ PLANNING = (
     ("only the byte 1 is a mark", "(mark != 0 for mark in", "(mark == 1 for mark in"),
     ("four bytes of the steps passed are read", "int.from_bytes(area[:PASSED_SIZE]", "int.from_bytes(area[:4]"),
     ("bytes after a session are cut off", "+ bytes(marks) + area[SESSION_SIZE:]", "+ bytes(marks)"),
+)
+
+# sparing.py
+
+SPARING_TABLE = '    if contract.header.form == TABLE:\n        return "refused", MAP\n'
+SPARING_SHORT = ('    if areas_too_short(contract, places_len, sums_len, order_len, work_len=0):\n'
+                 '        return "refused", SHORT\n')
+SPARING_FOUND = ('    found = plan_of(goal, contract)\n'
+                 '    if found is None:\n        return "refused", IMPOSSIBLE\n')
+SPARING_PARSED = "    contract = records.parse(record)\n"
+STARTS = "{PAYMENTS: delivery_start, DELIVERIES: payment_start}"
+SMALLER = "min(payment_start, delivery_start, key=moves)"
+FIRST = "    steps = [] if first == START else [first]\n"
+ONWARDS = "    return steps + steps_onwards(deal, first)\n"
+MOVES_OF_A_STEP = "(b > a) + (q > p)"
+SPARING_AREAS = '    return planning.areas_after(record, reply, places, sums, order, b"")[:3]\n'
+OLD_TAIL = SPARING_AREAS.replace("return", "after =") + '''\
+    n = len(reply[1]) if reply[0] == "steps" else 0
+    return after[0][:2 * n] + places[2 * n:], after[1][:4 * n] + sums[4 * n:], after[2]
+'''
+
+SPARING = (
+    ("the delivery start on a tie", SMALLER, "min(delivery_start, payment_start, key=moves)"),
+    ("the greater number of moves", SMALLER, "max(payment_start, delivery_start, key=moves)"),
+    ("only payments are counted as moves", MOVES_OF_A_STEP, "(q > p)"),
+    ("only deliveries are counted as moves", MOVES_OF_A_STEP, "(b > a)"),
+    ("payments and deliveries exchanged", STARTS, "{DELIVERIES: delivery_start, PAYMENTS: payment_start}"),
+    ("fewest moves for fewest payments", "if goal == MOVES:", "if goal != DELIVERIES:"),
+    ("an empty first step kept", FIRST, "    steps = [first]\n"),
+    ("any first step dropped", FIRST, "    steps = []\n"),
+    ("a delivery start that pays as well", "steps_after(deal, (place, 0))", "steps_after(deal, (place, paid))"),
+    ("a payment start that delivers as well", "steps_after(deal, (0, paid))", "steps_after(deal, (place, paid))"),
+    ("a delivery start of one unit", "steps_after(deal, (place, 0))", "steps_after(deal, (min(place, 1), 0))"),
+    ("a payment start of one coin", "steps_after(deal, (0, paid))", "steps_after(deal, (0, min(paid, 1)))"),
+    ("the rule from the start on after a forced step", ONWARDS, ONWARDS.replace("first)", "START)")),
+    ("the last step twice", ONWARDS, "    steps += steps_onwards(deal, first)\n    return steps + steps[-1:]\n"),
+    ("entries after the last step as they were", SPARING_AREAS, OLD_TAIL),
+    ("order bytes after the eighth cleared", SPARING_AREAS,
+     SPARING_AREAS.replace("order, b", "order[:8] + bytes(len(order[8:])), b")),
+    ("the plan area zero after 9", SPARING_AREAS,
+     '    if reply == ("refused", IMPOSSIBLE):\n        places = bytes(len(places))\n' + SPARING_AREAS),
+    ("items in their own order", '"steps", steps, order_bytes(items)', '"steps", steps, order_bytes(sorted(items))'),
+    ("8 for every table", SPARING_TABLE, SPARING_TABLE.replace("MAP", "SHORT")),
+    ("8 ahead of 2 for a table", SPARING_TABLE, SPARING_TABLE.replace("MAP", "MAP if order_len >= 8 else SHORT")),
+    ("2 for a table ahead of the record's refusals", SPARING_PARSED,
+     '    if record[:1] and record[0] & 32:\n        return "refused", MAP\n' + SPARING_PARSED),
+    ("2 for a table ahead of 7", SPARING_PARSED, SPARING_PARSED
+     + '    if contract == records.TRAILING and record[0] & 32:\n        return "refused", MAP\n'),
+    ("9 ahead of 8", *swapped(SPARING_SHORT, SPARING_FOUND)),
+    ("room for the forced step beside all others", SPARING_SHORT, SPARING_SHORT.replace("places_len", "places_len - 2")),
+    ("the order area not tested", SPARING_SHORT, SPARING_SHORT.replace("order_len", "8")),
+    ("the sums area not tested", SPARING_SHORT, SPARING_SHORT.replace("sums_len", "2 * places_len")),
 )
 
 # record.py, reading
@@ -149,5 +201,5 @@ WRITING = (
 )
 
 # the C library has ways of its own to a record, so the reader's rules have to be tried there too
-GROUPS = ((PLANNING, "planning", ("plans",)), (READING, "record", ("records", "plans")), (LENGTHS, "record", ("records",)),
-          (WRITING, "record", ("records",)))
+GROUPS = ((PLANNING, "planning", ("plans",)), (SPARING, "sparing", ("plans",)), (READING, "record", ("records", "plans")),
+          (LENGTHS, "record", ("records",)), (WRITING, "record", ("records",)))

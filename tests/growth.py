@@ -1,4 +1,5 @@
-"""Counts the instructions that planning takes as deals grow, with callgrind: the same on every run of one build.
+"""Counts the instructions that planning takes as deals grow, plans that spare moves included, with callgrind: the same on every run
+of one build.
 
 usage: python3 tests/growth.py      (needs target/staticlib/libyolkgorge.a, gcc and valgrind)
 """
@@ -15,6 +16,10 @@ from planning_cases import even_deal  # noqa: E402
 from record import LADDER, TABLE, UNIT_PRICES  # noqa: E402
 
 
+ENTRIES = {"plan": "yolkgorge_plan", "payments": "yolkgorge_plan_fewest_payments", "deliveries": "yolkgorge_plan_fewest_deliveries",
+           "moves": "yolkgorge_plan_fewest_moves"}
+
+
 def deals():
     for units in (250, 500, 1_000):
         # a payment and the delivery of one unit in turn; and one step, as the defection costs cover all
@@ -26,18 +31,25 @@ def deals():
         yield f"table, units {units}", even_deal(TABLE, units, 10, 10, 0)
 
 
+def counted(program, entry, path):
+    """The answer of an entry to the record in a file, and the instructions that it takes."""
+    run = subprocess.run(
+        ["valgrind", "--tool=callgrind", "--callgrind-out-file=" + str(path.parent / "out"), "--toggle-collect=" + ENTRIES[entry],
+         program, entry, path], capture_output=True, text=True, check=True)
+    return int(run.stdout), int(re.search(r"Collected : (\d+)", run.stderr)[1])
+
+
 def main():
     with tempfile.TemporaryDirectory() as folder:
         folder = Path(folder)
-        program = folder / "plan_file"
-        subprocess.run(["gcc", "-O2", "-o", program, HERE / "plan_file.c", HERE.parent / "target/staticlib/libyolkgorge.a"], check=True)
+        program, path = folder / "plan_file", folder / "record"
+        subprocess.run(["gcc", "-O2", "-I", HERE.parent / "include", "-o", program, HERE / "plan_file.c",
+                        HERE.parent / "target/staticlib/libyolkgorge.a"], check=True)
         for name, deal in deals():
-            (folder / "record").write_bytes(record.write(deal.header, deal.costs, deal.values, 8_016))
-            run = subprocess.run(
-                ["valgrind", "--tool=callgrind", "--callgrind-out-file=" + str(folder / "out"), "--toggle-collect=yolkgorge_plan",
-                 program, folder / "record"], capture_output=True, text=True, check=True)
-            count = int(re.search(r"Collected : (\d+)", run.stderr)[1])
-            print(f"{name:32} steps {run.stdout.strip():>5}   instructions {count:>12,}")
+            path.write_bytes(record.write(deal.header, deal.costs, deal.values, 8_016))
+            for entry in ENTRIES if deal.header.form != TABLE else ("plan",):
+                steps, count = counted(program, entry, path)
+                print(f"{name:32} {entry:10} steps {steps:>5}   instructions {count:>12,}")
 
 
 if __name__ == "__main__":

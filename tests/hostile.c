@@ -64,21 +64,38 @@ static unsigned long replies[32];
 
 static void note(int64_t answer) { replies[answer > 0 ? 13 + (answer > 12 ? 0 : answer) : -answer]++; }
 
+typedef int64_t sparing_planner(const uint8_t *, size_t, uint8_t *, size_t, uint8_t *, size_t, uint8_t *, size_t);
+static sparing_planner *const sparing[] = {yolkgorge_plan_fewest_payments, yolkgorge_plan_fewest_deliveries, yolkgorge_plan_fewest_moves};
+
+/* Plans with all four planners in the same areas. Answers the step count of the plan that stands there then, or 0 if none was made. */
+static size_t planned(area record, area places, area sums, area order, area work) {
+    int64_t n = yolkgorge_plan(record.bytes, record.length, places.bytes, places.length, sums.bytes, sums.length, order.bytes, order.length,
+                               work.bytes, work.length);
+    size_t made = n > 0 ? (size_t)n : 0;
+    note(n);
+    for (uint32_t first = below(3), i = first; i < first + 3; i++) {
+        n = sparing[i % 3](record.bytes, record.length, places.bytes, places.length, sums.bytes, sums.length, order.bytes, order.length);
+        note(n);
+        if (n > 0) made = (size_t)n;
+    }
+    return made;
+}
+
 int main(int argc, char **argv) {
     long calls = argc > 2 ? atol(argv[1]) : 0;
     for (long i = 0; i < calls; i++) {
         area record = some_record(argc - 2, argv + 2);
         area places = make(some_length(4002)), sums = make(some_length(8004)), order = make(some_length(9)), work = make(some_length(32768));
         area session = make(below(4) ? YOLKGORGE_SESSION_SIZE : some_length(12)), bounds = make(below(4) ? 16 : some_length(20));
-        size_t count = some_count();
-        int64_t n;
+        size_t count = some_count(), made;
+        uint32_t refusal;
         if (below(2)) memset(order.bytes, 0, order.length);
-        n = yolkgorge_plan(record.bytes, record.length, places.bytes, places.length, sums.bytes, sums.length, order.bytes, order.length,
-                           work.bytes, work.length);
-        note(n);
-        if (n > 0 && below(2)) count = (size_t)n;
-        note(-(int64_t)yolkgorge_check(record.bytes, record.length, count, places.bytes, places.length, sums.bytes, sums.length, order.bytes,
-                                       order.length));
+        made = planned(record, places, sums, order, work);
+        if (made && below(2)) count = made;
+        refusal = yolkgorge_check(record.bytes, record.length, count, places.bytes, places.length, sums.bytes, sums.length, order.bytes,
+                                  order.length);
+        note(-(int64_t)refusal);
+        if (refusal && made && count == made) return 1; /* a plan of ours */
         note(-(int64_t)yolkgorge_bounds(record.bytes, record.length, some_count(), order.bytes, order.length, bounds.bytes, bounds.length));
         note(-(int64_t)yolkgorge_open(session.bytes, session.length, record.bytes, record.length, count, places.bytes, places.length, sums.bytes,
                                       sums.length, order.bytes, order.length));

@@ -1,7 +1,7 @@
 """The C library, called from Python: the same entries as a desk calls, over numbers and byte areas.
 
 build(folder)   makes a shared library of target/staticlib/libyolkgorge.a, or of the file that YOLKGORGE_LIB names
-Library(path)   its entries; each answers as the reference in reference/planning.py does, areas included
+Library(path)   its entries; each answers as the reference in reference/planning.py and reference/sparing.py does, areas included
 """
 import ctypes
 import os
@@ -10,6 +10,7 @@ from pathlib import Path
 
 ARCHIVE = os.environ.get("YOLKGORGE_LIB") or Path(__file__).resolve().parent.parent / "target/staticlib/libyolkgorge.a"
 BOUNDS_BYTES = 16
+GOALS = "payments", "deliveries", "moves"
 
 
 def build(folder):
@@ -33,7 +34,8 @@ def content_of(held):
 class Library:
     def __init__(self, path):
         self.entries = ctypes.CDLL(str(path))
-        self.entries.yolkgorge_plan.restype = ctypes.c_int64
+        for name in ("plan", *(f"plan_fewest_{goal}" for goal in GOALS)):
+            getattr(self.entries, f"yolkgorge_{name}").restype = ctypes.c_int64
         for name in ("check", "open", "report", "finished", "bounds"):
             getattr(self.entries, f"yolkgorge_{name}").restype = ctypes.c_uint32
 
@@ -52,6 +54,10 @@ class Library:
 
     def plan(self, record, places, sums, order, work):
         answer, after = self.call("plan", record, places, sums, order, work)
+        return answer, after[0], tuple(after[1:])
+
+    def plan_fewest(self, goal, record, places, sums, order):
+        answer, after = self.call(f"plan_fewest_{goal}", record, places, sums, order)
         return answer, after[0], tuple(after[1:])
 
     def bounds(self, record, place, order, room):

@@ -1,22 +1,30 @@
-/* Plans the record in a file once, and prints the answer: for counting instructions. */
-#include <stdint.h>
+/* Plans the record in a file once, by planning or by a plan that spares payments, deliveries or moves, and prints the answer: for
+ * counting instructions.
+ * usage: plan_file plan|payments|deliveries|moves RECORD */
 #include <stdio.h>
-#include <stdlib.h>
+#include <string.h>
 
-int64_t yolkgorge_plan(const uint8_t *record, size_t record_len, uint8_t *places, size_t places_len, uint8_t *sums,
-                       size_t sums_len, uint8_t *order, size_t order_len, uint8_t *work, size_t work_len);
+#include "yolkgorge.h"
 
 static uint8_t record[8192], places[2 * 2001], sums[4 * 2001], order[8], work[128 * 256];
 
 int main(int argc, char **argv) {
-    FILE *file = argc == 2 ? fopen(argv[1], "rb") : NULL;
+    FILE *file = argc == 3 ? fopen(argv[2], "rb") : NULL;
     if (!file) {
-        fprintf(stderr, "usage: plan_file RECORD\n");
+        fprintf(stderr, "usage: plan_file plan|payments|deliveries|moves RECORD\n");
         return 2;
     }
     size_t length = fread(record, 1, sizeof record, file);
     fclose(file);
-    long long answer = yolkgorge_plan(record, length, places, sizeof places, sums, sizeof sums, order, sizeof order, work, sizeof work);
+    long long answer;
+    if (!strcmp(argv[1], "payments"))
+        answer = yolkgorge_plan_fewest_payments(record, length, places, sizeof places, sums, sizeof sums, order, sizeof order);
+    else if (!strcmp(argv[1], "deliveries"))
+        answer = yolkgorge_plan_fewest_deliveries(record, length, places, sizeof places, sums, sizeof sums, order, sizeof order);
+    else if (!strcmp(argv[1], "moves"))
+        answer = yolkgorge_plan_fewest_moves(record, length, places, sizeof places, sums, sizeof sums, order, sizeof order);
+    else
+        answer = yolkgorge_plan(record, length, places, sizeof places, sums, sizeof sums, order, sizeof order, work, sizeof work);
     printf("%lld\n", answer);
     return 0;
 }

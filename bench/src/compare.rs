@@ -5,7 +5,7 @@ use crate::brought::{some_order, some_plan, Brought};
 use crate::damage::damage;
 use crate::deals::{Areas, Deal};
 use crate::plain;
-use crate::program::{Program, LIBRARY, REFERENCE};
+use crate::program::{Program, LIBRARY, REFERENCE, SPARING};
 use crate::random::Random;
 use crate::sample::{self, Sample};
 use std::collections::BTreeMap;
@@ -70,13 +70,14 @@ struct Case<'a> {
 impl Case<'_> {
     /// `sample` is what the record says, unless it is damaged.
     fn all(&mut self, sample: Option<&Sample>) {
-        let (steps, planned) = self.plan(self.deal.areas(0));
+        let (steps, planned) = self.plan("plan", self.deal.areas(0), Program::plan_into);
         self.tally.plans += (steps > 0) as u64;
         if let Some(sample) = sample {
             self.search(sample, steps);
         }
         let lent = self.varied();
-        self.plan(lent);
+        self.plan("plan", lent, Program::plan_into);
+        self.sparing(sample);
         self.bounds(&planned);
         let steps = steps.max(0) as usize;
         for _ in 0..3 {
@@ -110,17 +111,31 @@ impl Case<'_> {
     }
 
     /// Plans into areas of random bytes, as long as those that are handed in.
-    fn plan(&mut self, mut lent: Areas) -> (i64, Areas) {
+    fn plan(&mut self, what: &str, mut lent: Areas, call: impl Fn(&Program, &[u8], &mut Areas) -> i64) -> (i64, Areas) {
         for area in lent.each_mut() {
-            area.iter_mut().for_each(|byte| *byte = self.random.byte());
+            self.random.fill(area);
         }
         let record = self.record;
-        let (steps, areas) = self.both("plan", |program| {
+        let (steps, areas) = self.both(what, |program| {
             let mut areas = lent.clone();
-            (program.plan_into(record, &mut areas), areas)
+            (call(program, record, &mut areas), areas)
         });
         self.seen(steps.min(0).unsigned_abs() as u32);
         (steps, areas)
+    }
+
+    /// Plans in each sparing way, into areas that are long enough and into others.
+    fn sparing(&mut self, sample: Option<&Sample>) {
+        for (which, what) in SPARING.iter().enumerate() {
+            let call = |program: &Program, record: &[u8], areas: &mut Areas| program.spare_into(which, record, areas);
+            for mut lent in [self.deal.areas(0), self.varied()] {
+                lent.work.clear();
+                let (steps, areas) = self.plan(what, lent, call);
+                if let Some(sample) = sample.filter(|_| steps > 0) {
+                    self.search_sparing(sample, which, steps as usize, &areas);
+                }
+            }
+        }
     }
 
     /// Areas of other lengths: longer, with odd ends, sometimes too short.
@@ -146,6 +161,19 @@ impl Case<'_> {
         self.tally.searched += 1;
         if !expected.allows(steps) {
             self.disagree("plan", [("both", format!("{steps}")), ("plain search", format!("{expected:?}"))]);
+        }
+    }
+
+    /// Holds the moves of a plan to a plain search, where the deal is small.
+    fn search_sparing(&mut self, sample: &Sample, which: usize, steps: usize, areas: &Areas) {
+        let Some(fewest) = plain::sparing(sample, &areas.order) else {
+            return;
+        };
+        self.tally.searched += 1;
+        let moves = areas.moves(steps);
+        let count = [moves[0], moves[1], moves[0] + moves[1]][which];
+        if count != fewest[which] {
+            self.disagree(SPARING[which], [("both", count), ("plain search", fewest[which])]);
         }
     }
 

@@ -63,6 +63,19 @@ impl Areas {
         let at = 4 * step;
         u32::from_le_bytes([self.sums[at], self.sums[at + 1], self.sums[at + 2], self.sums[at + 3]])
     }
+
+    /// How many of the first steps pay, and how many deliver.
+    pub fn moves(&self, steps: usize) -> [usize; 2] {
+        let mut before = (0, 0);
+        let mut moves = [0, 0];
+        for step in 0..steps {
+            let now = (self.place(step), self.sum(step));
+            moves[0] += (now.1 > before.1) as usize;
+            moves[1] += (now.0 > before.0) as usize;
+            before = now;
+        }
+        moves
+    }
 }
 
 /// The map with the bit of a form, then the terms that are not 0.

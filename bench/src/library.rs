@@ -15,6 +15,36 @@ mod c {
             work: *mut u8,
             work_len: usize,
         ) -> i64;
+        pub fn yolkgorge_plan_fewest_payments(
+            record: *const u8,
+            record_len: usize,
+            places: *mut u8,
+            places_len: usize,
+            sums: *mut u8,
+            sums_len: usize,
+            order: *mut u8,
+            order_len: usize,
+        ) -> i64;
+        pub fn yolkgorge_plan_fewest_deliveries(
+            record: *const u8,
+            record_len: usize,
+            places: *mut u8,
+            places_len: usize,
+            sums: *mut u8,
+            sums_len: usize,
+            order: *mut u8,
+            order_len: usize,
+        ) -> i64;
+        pub fn yolkgorge_plan_fewest_moves(
+            record: *const u8,
+            record_len: usize,
+            places: *mut u8,
+            places_len: usize,
+            sums: *mut u8,
+            sums_len: usize,
+            order: *mut u8,
+            order_len: usize,
+        ) -> i64;
         pub fn yolkgorge_check(
             record: *const u8,
             record_len: usize,
@@ -77,6 +107,38 @@ pub fn plan(record: &[u8], places: &mut [u8], sums: &mut [u8], order: &mut [u8],
             order.len(),
             work.as_mut_ptr(),
             work.len(),
+        )
+    }
+}
+
+pub fn plan_fewest_payments(record: &[u8], places: &mut [u8], sums: &mut [u8], order: &mut [u8]) -> i64 {
+    sparing(c::yolkgorge_plan_fewest_payments, record, places, sums, order)
+}
+
+pub fn plan_fewest_deliveries(record: &[u8], places: &mut [u8], sums: &mut [u8], order: &mut [u8]) -> i64 {
+    sparing(c::yolkgorge_plan_fewest_deliveries, record, places, sums, order)
+}
+
+pub fn plan_fewest_moves(record: &[u8], places: &mut [u8], sums: &mut [u8], order: &mut [u8]) -> i64 {
+    sparing(c::yolkgorge_plan_fewest_moves, record, places, sums, order)
+}
+
+/// One of the three entries above.
+type Sparing = unsafe extern "C" fn(*const u8, usize, *mut u8, usize, *mut u8, usize, *mut u8, usize) -> i64;
+
+#[inline(always)]
+fn sparing(entry: Sparing, record: &[u8], places: &mut [u8], sums: &mut [u8], order: &mut [u8]) -> i64 {
+    // SAFETY: as above.
+    unsafe {
+        entry(
+            record.as_ptr(),
+            record.len(),
+            places.as_mut_ptr(),
+            places.len(),
+            sums.as_mut_ptr(),
+            sums.len(),
+            order.as_mut_ptr(),
+            order.len(),
         )
     }
 }

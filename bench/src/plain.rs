@@ -1,4 +1,5 @@
-//! A third opinion for small deals: whether a plan exists and how few steps one has, by plain search from the definitions.
+//! A third opinion for small deals: whether a plan exists and how few steps one has, how few payments, deliveries and moves, by
+//! plain search from the definitions.
 
 use crate::deals::{held, rows, Terms};
 use crate::sample::{Content, Sample};
@@ -58,6 +59,54 @@ impl Places {
         }
         None
     }
+}
+
+/// No plan weighs as much.
+const FAR: usize = usize::MAX / 2;
+/// So many states are looked at.
+const MOST_STATES: usize = 1000;
+
+impl Places {
+    /// The least weight of a plan along one order, by what a payment and a delivery weigh. All sums are tried. A step with both
+    /// moves weighs as much as two steps with one each, which are safe because its four states are.
+    fn lightest(&self, payment: usize, delivery: usize) -> usize {
+        // The least weights so far with each sum at an earlier place.
+        let mut earlier = vec![FAR; self.price as usize + 1];
+        earlier[0] = if self.safe(0, 0) { 0 } else { FAR };
+        let mut weight = FAR;
+        for place in 0..self.lower.len() {
+            let mut smaller = FAR;
+            for (paid, earlier) in earlier.iter_mut().enumerate() {
+                let delivered = if place > 0 { delivery } else { 0 };
+                let reached = self.safe(place, paid as i64);
+                weight = if reached { (*earlier + delivered).min(smaller + payment) } else { FAR };
+                *earlier = weight.min(*earlier);
+                smaller = weight.min(smaller);
+            }
+        }
+        weight
+    }
+}
+
+/// The fewest payments, the fewest deliveries and the fewest moves of plans along the order that is handed in; none for a
+/// table, or if there are too many states.
+pub fn sparing(sample: &Sample, order: &[u8]) -> Option<[usize; 3]> {
+    let rises = match &sample.content {
+        Content::Ladder(rises) => rises.clone(),
+        Content::Items(items) => in_order(items, order),
+        Content::Table(..) => return None,
+    };
+    if (rises.len() + 1) * (sample.terms.price as usize + 1) > MOST_STATES {
+        return None;
+    }
+    let places = ladder(sample.terms, &rises);
+    Some([(1, 0), (0, 1), (1, 1)].map(|(payment, delivery)| places.lightest(payment, delivery)))
+}
+
+/// The units of the items in the order that the eight order bytes name; the area may be longer.
+fn in_order(items: &[(u8, u32, u32)], order: &[u8]) -> Vec<(u32, u32)> {
+    let named = order.iter().take(8).filter_map(|number| items.get((*number as usize).wrapping_sub(1)));
+    named.flat_map(|item| (0..item.0).map(|_| (item.1, item.2))).collect()
 }
 
 /// What planning should answer.

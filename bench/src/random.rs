@@ -32,4 +32,10 @@ impl Random {
     pub fn byte(&mut self) -> u8 {
         self.next() as u8
     }
+
+    pub fn fill(&mut self, area: &mut [u8]) {
+        for part in area.chunks_mut(8) {
+            part.copy_from_slice(&self.next().to_le_bytes()[..part.len()]);
+        }
+    }
 }

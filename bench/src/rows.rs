@@ -4,9 +4,11 @@ use crate::carried::Carried;
 use crate::cases::{self, Risk};
 use crate::deals::{Areas, Deal};
 use crate::pass;
-use crate::program::{Program, LIBRARY, REFERENCE};
+use crate::program::{Program, LIBRARY, REFERENCE, SPARING};
 use crate::timing::side_by_side;
 use std::hint::black_box;
+
+const RISKS: [Risk; 4] = [Risk::Great, Risk::Middle, Risk::Small, Risk::None];
 
 /// Prints rows as they are timed.
 pub struct Bench {
@@ -34,6 +36,7 @@ impl Bench {
 
     pub fn all(&self) {
         self.planning();
+        self.sparing();
         self.filling();
         self.checking();
         self.reporting();
@@ -43,11 +46,10 @@ impl Bench {
 
     fn planning(&self) {
         self.heading("Planning");
-        let risks = [Risk::Great, Risk::Middle, Risk::Small, Risk::None];
-        for risk in risks {
+        for risk in RISKS {
             self.plan("ladder, 1,000 units", &cases::ladder(1000, risk));
         }
-        for risk in risks {
+        for risk in RISKS {
             self.plan("eight items, 1,000 units", &cases::items(1000, risk));
         }
         for units in [&[127][..], &[1, 63], &[3, 3, 3, 1]] {
@@ -57,17 +59,35 @@ impl Bench {
         }
     }
 
+    /// The same deals as for planning; the steps of each kind of plan are its own.
+    fn sparing(&self) {
+        for (which, what) in SPARING.iter().enumerate() {
+            self.heading(&format!("Planning with {what}"));
+            let call = |program: &Program, record: &[u8], areas: &mut Areas| program.spare_into(which, record, areas);
+            for risk in RISKS {
+                self.plan_by("ladder, 1,000 units", &cases::ladder(1000, risk), call);
+            }
+            for risk in RISKS {
+                self.plan_by("eight items, 1,000 units", &cases::items(1000, risk), call);
+            }
+        }
+    }
+
     fn plan(&self, name: &str, deal: &Deal) {
+        self.plan_by(name, deal, Program::plan_into);
+    }
+
+    fn plan_by(&self, name: &str, deal: &Deal, call: impl Fn(&Program, &[u8], &mut Areas) -> i64) {
         if !self.wanted(name) {
             return;
         }
-        let (steps, mut ours) = agreed_plan(deal);
+        let (steps, mut ours) = agreed(deal, &call);
         let mut theirs = ours.clone();
         let mut passed = ours.clone();
         let times = side_by_side(
             self.rounds,
-            || call_plan(&LIBRARY, deal, &mut ours),
-            || call_plan(&REFERENCE, deal, &mut theirs),
+            || keep_plan(&LIBRARY, deal, &mut ours, &call),
+            || keep_plan(&REFERENCE, deal, &mut theirs, &call),
             || pass::plan(deal, &mut passed, steps > 0),
         );
         let steps = if steps > 0 { steps.to_string() } else { "impossible".to_string() };
@@ -89,7 +109,7 @@ impl Bench {
             let times = side_by_side(
                 self.rounds,
                 || fill_sums(steps - 1),
-                || call_plan(&REFERENCE, &deal, &mut theirs),
+                || keep_plan(&REFERENCE, &deal, &mut theirs, Program::plan_into),
                 || pass::plan(&deal, &mut passed, true),
             );
             self.row(&name, &steps.to_string(), times);
@@ -203,8 +223,8 @@ fn keep(answer: u32) {
     black_box(answer);
 }
 
-fn call_plan(program: &Program, deal: &Deal, areas: &mut Areas) {
-    black_box(program.plan_into(black_box(&deal.record), areas));
+fn keep_plan(program: &Program, deal: &Deal, areas: &mut Areas, call: impl Fn(&Program, &[u8], &mut Areas) -> i64) {
+    black_box(call(program, black_box(&deal.record), areas));
     black_box(areas);
 }
 
@@ -214,11 +234,15 @@ fn fill_sums(steps: i64) {
     }
 }
 
-/// Plans with both: the answer and all areas must be the same.
 fn agreed_plan(deal: &Deal) -> (i64, Areas) {
+    agreed(deal, Program::plan_into)
+}
+
+/// Plans with both: the answer and all areas must be the same.
+fn agreed(deal: &Deal, call: impl Fn(&Program, &[u8], &mut Areas) -> i64) -> (i64, Areas) {
     let (mut ours, mut theirs) = (deal.areas(0xa5), deal.areas(0xa5));
-    let steps = LIBRARY.plan_into(&deal.record, &mut ours);
-    assert_eq!(steps, REFERENCE.plan_into(&deal.record, &mut theirs), "number of steps");
+    let steps = call(&LIBRARY, &deal.record, &mut ours);
+    assert_eq!(steps, call(&REFERENCE, &deal.record, &mut theirs), "number of steps");
     assert!(steps > 0 || steps == -9, "refused: {steps}");
     assert!(ours == theirs, "areas of a plan");
     (steps, ours)

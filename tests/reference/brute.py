@@ -176,3 +176,79 @@ def judged(contract, found):
         return
     for k, (ours, ahead) in enumerate(zip([START, *steps], greatest(rivals))):
         yield f"ahead along our order after {k} steps", ours[0] >= ahead[0] and ours[1] >= ahead[1], True
+
+
+# Fewest payments, deliveries and moves along one order
+
+COUNTED = {"payments": (0, 1), "deliveries": (1, 0), "moves": (1, 1)}  # whether a delivery counts, and a payment
+
+
+def step_moves(goal, before, after):
+    """How many moves of the counted kinds a step has: a delivery if the place rises, a payment if the paid total does."""
+    return sum(counts for counts, earlier, later in zip(COUNTED[goal], before, after) if later > earlier)
+
+
+def plan_moves(goal, states):
+    return sum(step_moves(goal, before, after) for before, after in zip([START, *states], states))
+
+
+def fewest_moves(goal, world, steps):
+    """The fewest of all safe plans, however many steps they have, or None if there is none."""
+    least = {START: 0} if START in steps else {}
+    for state in sorted(steps):  # a step only adds, so all ways to a state are settled ahead of it
+        for after in steps[state] if state in least else ():
+            moves = least[state] + step_moves(goal, state, after)
+            least[after] = min(moves, least.get(after, moves))
+    return least.get(world.end)
+
+
+def judged_sparing(contract, found):
+    """What planners for each goal found, (steps, items) or None, against all safe plans: triples as above."""
+    exists = some_plan_exists(contract)
+    for goal in COUNTED:
+        yield f"whether a plan with fewest {goal} exists", found[goal] is not None, exists
+    if not exists or None in found.values():
+        return
+    plans, orders = ({goal: found[goal][part] for goal in COUNTED} for part in (0, 1))
+    yield "orders", len(set(orders.values())), 1
+    world = own_world(contract, orders["moves"])
+    ways = all_steps(world)
+    for goal, steps in plans.items():
+        yield f"a safe plan with fewest {goal}", is_plan(world, ways, steps), True
+        yield f"the number of {goal}", plan_moves(goal, steps), fewest_moves(goal, world, ways)
+        yield f"at most 2U + 1 steps for fewest {goal}", len(steps) <= 2 * world.end[0] + 1, True
+        yield f"one move in each step for fewest {goal}", len(steps), plan_moves("moves", steps)
+    yield from judged_starts(world, ways, plans)
+
+
+def judged_starts(world, steps, plans):
+    """A delivery start goes as far as one can without a payment, a payment start the other way round; an empty one is dropped,
+    so that the other kind of move comes first. For moves it is one of these two, the payment start on a tie."""
+    delivery, payment = first_moves(steps)
+    yield "the start for fewest payments", plans["payments"][0], delivery if delivery != START else payment
+    yield "the start for fewest deliveries", plans["deliveries"][0], payment if payment != START else delivery
+    both = plans["deliveries"], plans["payments"]
+    yield "the plan for fewest moves", plans["moves"], min(both, key=lambda plan: plan_moves("moves", plan))
+
+
+def first_moves(steps):
+    """The states after the greatest first delivery without a payment, and after the greatest first payment without a delivery."""
+    ways = [START, *steps[START]]
+    return max(state for state in ways if state[1] == 0), max(state for state in ways if state[0] == 0)
+
+
+START_KINDS = ("impossible", "empty first delivery", "empty first payment", "delivery start shorter", "payment start shorter",
+               "both starts equal")
+
+
+def starts_kind(contract, found):
+    """Which of the starts is empty or has fewer moves, to see that all kinds come up; found is as above."""
+    if found["moves"] is None:
+        return "impossible"
+    delivery, payment = first_moves(all_steps(own_world(contract, found["moves"][1])))
+    if START in (delivery, payment):
+        return "empty first delivery" if delivery == START else "empty first payment"
+    by_delivery, by_payment = (plan_moves("moves", found[goal][0]) for goal in ("payments", "deliveries"))
+    if by_delivery == by_payment:
+        return "both starts equal"
+    return "delivery start shorter" if by_delivery < by_payment else "payment start shorter"

@@ -180,22 +180,30 @@ def plan_of(contract):
 
 
 def steps_along(deal):
-    """The rule for a given order, or None where it comes to a stand before the end.
-
-    The paper: "each step delivers to the greatest place whose lower bound is at most p, and pays to the smaller of
-    upper(a) and P".
-    """
+    """The plan that the rule for a given order makes, or None if there is none."""
     if not deal.safe(*START):
         return None
-    steps, state = [], START
+    return steps_onwards(deal, START)
+
+
+def steps_onwards(deal, state):
+    """The rule's steps from a state on, or None where it comes to a stand before the end."""
+    steps = []
     while state != (deal.last, deal.price):
-        place, paid = state
-        # lower bounds never fall along an order, so the places within reach are the first ones
-        state = bisect_right(deal.lower, paid) - 1, min(deal.upper[place], deal.price)
-        if state == (place, paid):
+        before, state = state, rule_step(deal, state)
+        if state == before:
             return None
         steps.append(state)
     return steps
+
+
+def rule_step(deal, state):
+    """The paper: "each step delivers to the greatest place whose lower bound is at most p, and pays to the smaller of
+    upper(a) and P".
+    """
+    place, paid = state
+    # lower bounds never fall along an order, so the places within reach are the first ones
+    return bisect_right(deal.lower, paid) - 1, min(deal.upper[place], deal.price)
 
 
 # The order for unit prices. The gap is upper less lower; the next unit is safe exactly if its value is at most the gap.

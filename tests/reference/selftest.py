@@ -1,4 +1,4 @@
-"""Tries planning.py against the paper's cases and, on tiny deals, against going through all plans.
+"""Tries planning.py and sparing.py against the paper's cases and, on tiny deals, against going through all plans.
 
 usage: python3 tests/reference/selftest.py [SEED]
 
@@ -7,18 +7,24 @@ Prints how many checks passed. The first check that fails ends the run with a me
 import random
 import struct
 import sys
+from collections import Counter
 from itertools import islice
 
 import brute
 import planning
 import planning_cases
 import record
+import sparing
+import sparing_cases
 from planning import DELIVERY, PAYMENT
 from record import LADDER, TABLE, UNIT_PRICES
+from record_cases import in_turn
 
 TINY_DEALS = 3_000     # of each form
 MOST_LISTED = 300      # plans of one deal that are listed one by one
 MIDDLE_DEALS = 60      # tables with more rows and a greater price
+SPARING_DEALS = 5_000  # of each form but tables
+LEAST_OF_KIND = 200    # of these deals
 
 ROOM = 9_000           # bytes, enough for every area of the cases below but a table's work area
 WORK = 40_000
@@ -165,6 +171,62 @@ def refusals_and_areas():
     expect(planning.check(A, 5, *areas(A_STEPS), b"\1" + bytes(7)), 12, "order bytes for a ladder")
 
 
+# Fewest payments, deliveries and moves
+
+def spared(data, *lengths):
+    """The replies for each goal, in areas of these lengths or in large ones."""
+    return [sparing.plan(goal, data, *lengths or (ROOM, ROOM, 8)) for goal in sparing.GOALS]
+
+
+def sparing_cases_by_hand():
+    expect(spared(A), [steps_reply(A_STEPS)] * 3, "A, sparing: no first delivery")
+    c_steps = [(1, 0), (1, 4), (2, 4), (2, 7)]
+    expect(spared(ladder((7, 1, 3), A_RISES)), [steps_reply(c_steps)] * 3, "C, sparing: no first payment")
+    expect(spared(ladder((0, 0, 0), [(0, 0)])), [steps_reply([(1, 0)])] * 3, "E, sparing")
+    one_two = b"\1\2\0\0\0\0\0\0"
+    by_delivery = steps_reply([(1, 0), (1, 6), (2, 6), (2, 8)], one_two)
+    by_payment = steps_reply([(0, 1), (1, 1), (1, 6), (2, 6), (2, 8)], one_two)
+    expect(spared(unit_prices((8, 1, 2), G_ITEMS)), [by_delivery, by_payment, by_delivery], "G, sparing: two payments are enough")
+    by_delivery, by_payment = steps_reply([(1, 0), (1, 1)]), steps_reply([(0, 1), (1, 1)])
+    expect(spared(ladder((1, 1, 1), [(0, 0)])), [by_delivery, by_payment, by_payment], "the payment start on a tie")
+    by_delivery, by_payment = steps_reply([(1, 0), (1, 2), (2, 2)]), steps_reply([(0, 2), (2, 2)])
+    expect(spared(ladder((2, 0, 1), [(0, 1)] * 2)), [by_delivery, by_payment, by_payment], "one delivery is enough")
+    for name, data in ("B", ladder((10, 1, 2), A_RISES)), ("D", ladder((6, 1, 3), A_RISES)), ("H", unit_prices((8, 1, 1), G_ITEMS)):
+        expect(spared(data), [refused(9)] * 3, f"{name}, sparing")
+    longest = planning_cases.unit_by_unit(LADDER, (1_000,))
+    expect([len(sparing.plan_of(goal, longest)[0]) for goal in sparing.GOALS], [2_001] * 3, "2U + 1 steps, sparing")
+
+
+def sparing_refusals_and_areas():
+    """The record's refusals, then 2 for a table, then 8, then 9; and every byte of the areas."""
+    b = ladder((10, 1, 2), A_RISES)
+    for data, number in (A[:31], 1), (A + b"\0", 7), (F[:-1], 1), (F + b"\0", 7), (F, 2), (A, 8), (b, 8):
+        expect(spared(data, 0, 0, 0), [refused(number)] * 3, f"{number} without areas")
+    expect(spared(F), [refused(2)] * 3, "2 for a table")
+    expect((spared(A, 10, 20, 8), spared(b, 10, 20, 8)), ([steps_reply(A_STEPS)] * 3, [refused(9)] * 3), "areas just long enough")
+    for lengths in (9, 20, 8), (10, 19, 8), (10, 20, 7):
+        expect((spared(A, *lengths), spared(b, *lengths)), ([refused(8)] * 3,) * 2, f"areas of {lengths}")
+    lent = b"\7" * 13, b"\7" * 23, b"\7" * 9
+    expect(sparing.areas_after(A, steps_reply(A_STEPS), *lent),
+           (bytes.fromhex("0000 0100 0100 0200 0200 0000 07"),
+            bytes.fromhex("03000000 03000000 07000000 07000000 0a000000 070707"), ZEROS + b"\7"), "A's areas, sparing")
+    for number in range(1, 10):
+        expect(sparing.areas_after(A, refused(number), *lent), lent, f"areas after {number}, sparing")
+
+
+def sparing_deals(rng):
+    """Against all safe plans in the same order; each kind of start has to come up."""
+    for form in LADDER, UNIT_PRICES:
+        seen = Counter()
+        for _ in range(SPARING_DEALS):
+            contract = sparing_cases.small_deal(rng, form)
+            found = {goal: sparing.plan_of(goal, contract) for goal in sparing.GOALS}
+            for what, got, wanted in brute.judged_sparing(contract, found):
+                expect(got, wanted, f"{what}: {contract} {found}")
+            seen[brute.starts_kind(contract, found)] += 1
+        expect([kind for kind in brute.START_KINDS if seen[kind] < LEAST_OF_KIND], [], f"kinds that are too rare: {seen}")
+
+
 # Tiny deals against all plans
 
 def tiny_deal(rng, contract):
@@ -187,6 +249,9 @@ def listed_plans(contract, world, ways, layers):
         listed = [{([brute.START] + plan)[k] for plan in plans if k <= len(plan)} for k in range(longest + 1)]
         expect(listed, layers, f"all plans one by one: {contract}")
         expect(min(map(len, plans)), brute.least_count(world, layers), f"fewest of all plans: {contract}")
+        for goal in sparing.GOALS:
+            fewest = min(brute.plan_moves(goal, plan) for plan in plans)
+            expect(brute.fewest_moves(goal, world, ways), fewest, f"fewest {goal} of all plans: {contract}")
 
 
 def changed_plans(rng, contract, world, ways):
@@ -243,20 +308,42 @@ def middle_tables(rng):
 # The generated cases, where another way to the result is at hand
 
 def generated_plans(seed):
-    """Whether a plan exists, by the least leaving costs; and the areas give back a plan that the check takes."""
-    for case in planning_cases.plan_cases(seed):
-        lent = case.places, case.sums, case.order, case.work
-        reply = planning.plan(case.record, *map(len, lent))
-        after = planning.areas_after(case.record, reply, *lent)
-        expect([len(area) for area in after], [len(area) for area in lent], f"lengths of areas: {case}")
+    for case in in_turn(planning_cases.plan_cases(seed), sparing_cases.sparing_cases(seed)):
         contract = record.parse(case.record)
-        if reply[0] == "steps":
-            expect(planning.check(case.record, len(reply[1]), *after[:3]), 0, f"the plan in the areas: {case}")
-        if reply[0] == "steps" or reply == refused(9):
-            expect(reply[0] == "steps", can_be_planned(contract), f"whether a plan exists: {case}")
-            if contract.header.form == TABLE:
-                rows = [row for row, _ in reply[1]] if reply[0] == "steps" else None
-                expect(rows, rows_by_needs(contract), f"fewest steps, earliest rows: {case}")
+        reply = generated_plan(case, contract)
+        if isinstance(contract, record.Contract) and contract.header.form == TABLE:
+            reply = refused(2)
+        for goal in sparing.GOALS:
+            generated_sparing(goal, case, reply)
+
+
+def generated_plan(case, contract):
+    """Whether a plan exists, by the least leaving costs; and the areas give back a plan that the check takes."""
+    lent = case.places, case.sums, case.order, case.work
+    reply = planning.plan(case.record, *map(len, lent))
+    after = planning.areas_after(case.record, reply, *lent)
+    expect([len(area) for area in after], [len(area) for area in lent], f"lengths of areas: {case}")
+    if reply[0] == "steps":
+        expect(planning.check(case.record, len(reply[1]), *after[:3]), 0, f"the plan in the areas: {case}")
+    if reply[0] == "steps" or reply == refused(9):
+        expect(reply[0] == "steps", can_be_planned(contract), f"whether a plan exists: {case}")
+        if contract.header.form == TABLE:
+            rows = [row for row, _ in reply[1]] if reply[0] == "steps" else None
+            expect(rows, rows_by_needs(contract), f"fewest steps, earliest rows: {case}")
+    return reply
+
+
+def generated_sparing(goal, case, planned_reply):
+    """Refused as planning is, or planned in the same order; and the areas give back a plan that the check takes."""
+    lent = case.places, case.sums, case.order
+    reply = sparing.plan(goal, case.record, *map(len, lent))
+    after = sparing.areas_after(case.record, reply, *lent)
+    expect([len(area) for area in after], [len(area) for area in lent], f"lengths of areas, {goal}: {case}")
+    if reply[0] == "steps":
+        expect(planning.check(case.record, len(reply[1]), *after), 0, f"the plan in the areas, {goal}: {case}")
+        expect(("steps", reply[2]), planned_reply[::2], f"the order, {goal}: {case}")
+    else:
+        expect(reply, planned_reply, f"the refusal, {goal}: {case}")
 
 
 def rows_by_needs(contract):
@@ -379,8 +466,11 @@ def main():
     case_i()
     other_cases()
     refusals_and_areas()
+    sparing_cases_by_hand()
+    sparing_refusals_and_areas()
     tiny_deals(rng)
     middle_tables(rng)
+    sparing_deals(rng)
     generated_plans(seed)
     generated_sessions(seed)
     print(f"{passed} checks passed")

@@ -47,6 +47,34 @@ impl<'a> Writer<'a> {
         }
     }
 
+    pub fn steps(&self) -> usize {
+        self.steps
+    }
+
+    /// Place and sum before the last step.
+    pub fn before_last(&self) -> (u16, u32) {
+        match self.steps.checked_sub(2) {
+            None => (0, 0),
+            Some(step) => (u16::from_le_bytes(self.places[step]), u32::from_le_bytes(self.sums[step])),
+        }
+    }
+
+    /// Puts off every second delivery and every second payment to the next step, so that each step makes one move: the first
+    /// a delivery or a payment.
+    pub fn put_off(&mut self, delivery_first: bool) {
+        let places = &mut self.places[..self.steps];
+        let sums = &mut self.sums[..self.steps];
+        if delivery_first {
+            repeat(places);
+            sums[0] = [0; 4];
+            repeat(&mut sums[1..]);
+        } else {
+            repeat(sums);
+            places[0] = [0; 2];
+            repeat(&mut places[1..]);
+        }
+    }
+
     /// Clears the entries after the last step; answers the number of steps.
     pub fn finish(self) -> usize {
         self.places[self.steps..].as_flattened_mut().fill(0);
@@ -55,9 +83,23 @@ impl<'a> Writer<'a> {
     }
 }
 
+/// Makes each second entry the same as the one before it.
+fn repeat<T: Copy>(entries: &mut [T]) {
+    for pair in entries.chunks_exact_mut(2) {
+        pair[1] = pair[0];
+    }
+}
+
 /// Writes the plan along a line that admits one. `last` is its last place.
 #[inline(always)]
 pub fn write<L: Line>(frame: &Frame, line: &L, last: usize, mut plan: Writer) -> usize {
+    run(frame, line, last, &mut plan);
+    plan.finish()
+}
+
+/// The steps of that plan.
+#[inline(always)]
+pub fn run<L: Line>(frame: &Frame, line: &L, last: usize, plan: &mut Writer) {
     let frame = *frame;
     let mut at = line.start();
     let mut paid = 0;
@@ -73,7 +115,6 @@ pub fn write<L: Line>(frame: &Frame, line: &L, last: usize, mut plan: Writer) ->
     if sum < frame.price {
         plan.step(last, frame.price);
     }
-    plan.finish()
 }
 
 impl Line for Ladder<'_> {

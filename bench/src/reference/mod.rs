@@ -6,13 +6,15 @@ mod choice;
 mod line;
 mod record;
 mod session;
+mod sparing;
 mod table;
 
 use check::Brought;
 use choice::Runs;
 use line::Writer;
-use record::{Form, Items, Ladder, Table, Terms, IMPOSSIBLE, SHORT};
+use record::{Form, Items, Ladder, Table, Terms, IMPOSSIBLE, MAP, SHORT};
 use session::Session;
+use sparing::Fewest;
 use table::Search;
 
 /// The areas that planning writes.
@@ -58,11 +60,30 @@ fn decide<T>(found: Option<T>, work: &mut [u8]) -> Result<T, u32> {
 
 /// Plans a deal: the number of steps, or minus the number of a refusal.
 pub fn plan(record: &[u8], places: &mut [u8], sums: &mut [u8], order: &mut [u8], work: &mut [u8]) -> i64 {
-    let areas = Areas { places, sums, order, work };
+    plan_with(Fewest::Steps, record, Areas { places, sums, order, work })
+}
+
+/// Plans a ladder or unit prices with fewest payments.
+pub fn plan_fewest_payments(record: &[u8], places: &mut [u8], sums: &mut [u8], order: &mut [u8]) -> i64 {
+    plan_with(Fewest::Payments, record, Areas { places, sums, order, work: &mut [] })
+}
+
+/// The same with fewest deliveries.
+pub fn plan_fewest_deliveries(record: &[u8], places: &mut [u8], sums: &mut [u8], order: &mut [u8]) -> i64 {
+    plan_with(Fewest::Deliveries, record, Areas { places, sums, order, work: &mut [] })
+}
+
+/// The same with fewest payments and deliveries together.
+pub fn plan_fewest_moves(record: &[u8], places: &mut [u8], sums: &mut [u8], order: &mut [u8]) -> i64 {
+    plan_with(Fewest::Moves, record, Areas { places, sums, order, work: &mut [] })
+}
+
+fn plan_with(fewest: Fewest, record: &[u8], areas: Areas) -> i64 {
     let steps = record::head(record).and_then(|(terms, form, rest)| match form {
-        Form::Ladder => plan_ladder(terms, rest, areas),
-        Form::Items => plan_items(terms, rest, areas),
-        Form::Table => plan_table(terms, rest, areas),
+        Form::Ladder => plan_ladder(fewest, terms, rest, areas),
+        Form::Items => plan_items(fewest, terms, rest, areas),
+        Form::Table if fewest == Fewest::Steps => plan_table(terms, rest, areas),
+        Form::Table => Err(Table::empty().read(rest).err().unwrap_or(MAP)),
     });
     answer(steps)
 }
@@ -74,23 +95,23 @@ fn answer(steps: Result<usize, u32>) -> i64 {
     }
 }
 
-fn plan_ladder(terms: Terms, rest: &[u8], mut areas: Areas) -> Result<usize, u32> {
+fn plan_ladder(fewest: Fewest, terms: Terms, rest: &[u8], mut areas: Areas) -> Result<usize, u32> {
     let ladder = Ladder::read(rest)?;
     areas.fit(ladder.rises.len(), 0)?;
     let frame = terms.frame(ladder.all);
     decide(line::admits(&frame, &ladder).then_some(()), areas.work)?;
     areas.put_order([0; 8]);
-    Ok(line::write(&frame, &ladder, ladder.rises.len(), areas.writer()))
+    Ok(sparing::write(fewest, &frame, &ladder, ladder.rises.len(), areas.writer()))
 }
 
-fn plan_items(terms: Terms, rest: &[u8], mut areas: Areas) -> Result<usize, u32> {
+fn plan_items(fewest: Fewest, terms: Terms, rest: &[u8], mut areas: Areas) -> Result<usize, u32> {
     let items = Items::read(rest)?;
     areas.fit(items.units, 0)?;
     let frame = terms.frame(items.all);
     let order = choice::choose(&items, &frame);
     let order = decide(order, areas.work)?;
     areas.put_order(order);
-    Ok(line::write(&frame, &Runs::new(&items, &order), items.units, areas.writer()))
+    Ok(sparing::write(fewest, &frame, &Runs::new(&items, &order), items.units, areas.writer()))
 }
 
 fn plan_table(terms: Terms, rest: &[u8], mut areas: Areas) -> Result<usize, u32> {

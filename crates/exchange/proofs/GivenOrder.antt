@@ -2,6 +2,9 @@
 -- Assumes nothing.
 pub mod Run
 pub mod Lead
+pub mod Count
+pub mod Starts
+pub mod Opening
 pub mod Farthest
 pub mod Greedy
 pub mod Gaps
@@ -31,7 +34,7 @@ use Rattle.exchange.proofs.GivenOrder.RuleLaws.{rule-greedy, ruled-path
 
 -- a deal along one order: places count units
 module _ (d : Deal) (r : Rising d) (counts : (a b : ℕ) → d .holds a b ≡ leb a b) where
-  on-line : OnLine (workOf d)
+  pub on-line : OnLine (workOf d)
   on-line = record { lawful = lawful d r; counts = counts }
 
   stands : Safe d 0 0 → Stands (workOf d) start
@@ -72,7 +75,7 @@ module _ (d : Deal) (r : Rising d) (counts : (a b : ℕ) → d .holds a b ≡ le
 
   -- ---- which deals have a plan
 
-  to-work : Possible d → NoGap (workOf d)
+  pub to-work : Possible d → NoGap (workOf d)
   to-work p i h =
       let c = coins-rise _ _ (p .no-gap i h) in
       let f = floor-up on-line (suc i) (d .last) h (le-refl _) in

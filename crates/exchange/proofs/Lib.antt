@@ -9,6 +9,7 @@ pub mod Machine
 pub mod TestLaws
 -- planning along a given order, choosing an order of units, and planning over the rows of a table
 pub mod GivenOrder
+pub mod Objectives
 pub mod Choice
 pub mod TablePlan
 pub mod PlanInLaws

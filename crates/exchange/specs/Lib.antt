@@ -7,6 +7,7 @@ pub mod Arrival
 pub mod Possible
 pub mod Choice
 pub mod Fewest
+pub mod Objectives
 pub mod Test
 pub mod PlanIn
 pub mod Named

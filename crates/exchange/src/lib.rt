@@ -20,6 +20,14 @@ pub enum Planned {
     Unfit,
 }
 
+// What a plan is to have fewest of. Moves are payments and deliveries together.
+pub enum Objective {
+    Steps,
+    Payments,
+    Deliveries,
+    Moves,
+}
+
 // The bounds of a place. Either may be negative.
 pub struct Bounds {
     pub lower: i64,

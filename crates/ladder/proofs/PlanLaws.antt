@@ -11,21 +11,16 @@ use lib.Dec.{T}
 use lib.IntN.{pos}
 use lib.ListN.{getD}
 use lib.Signed.{leZ, _≤ℤ_}
-use Rattle.area.specs.Entries.{Cleared}
-use Rattle.exchange.specs.Arrival.{Arrives}
 use Rattle.exchange.specs.Bounds.{lowerOf}
-use Rattle.exchange.specs.Deal.{Deal, State, Safe, Plan, start}
-use Rattle.exchange.specs.Possible.{Possible}
+use Rattle.exchange.specs.Deal.{Deal, State, Safe, Plan}
 use Rattle.exchange.proofs.Int.{leZ-true}
 use Rattle.line.specs.Segments.{spread}
 use Rattle.line.specs.Code as line
-use Rattle.line.specs.Code.{Decides, Written, meet, sumTo}
-use Rattle.line.specs.Promise.{Success}
+use Rattle.line.specs.Code.{Decides, meet, sumTo}
 use Rattle.line.specs.declared.Cursor.{Cursor}
 use Rattle.line.proofs.SegmentLaws.{sum-up}
 use Rattle.line.proofs.DealLaws as deals
-use Rattle.line.proofs.RunLaws.{laid}
-use Rattle.ladder.specs.Rises.{Lies, Room, costsIn, valuesIn, dealIn}
+use Rattle.ladder.specs.Rises.{Lies, costsIn, valuesIn, dealIn}
 use Rattle.ladder.specs.Code.{onesIn, lineIn, cursorOf, At, There, Reached, Delivered}
 use Rattle.ladder.specs.declared.Ladder.{Ladder}
 use Rattle.ladder.specs.declared.place.Rung.{Rung}
@@ -123,23 +118,6 @@ module _ (l : Ladder) (s : List ℕ) (p : Lies l s) (cf : l .all .cost < 2 ^ 32)
     pub delivers-last : (c : Rung) → Reached l s paid c → l .all .units ≤ c .place → Delivered l s paid c
     delivers-last c r h =
         deals.stops-last (l .sides) (onesIn l) (costsIn l s) (valuesIn l s) (l .all) (known l s p cf vf) paid (cursorOf c) r h
-
-  -- ---- the whole plan
-
-  -- the steps written, and the entries after them cleared
-  pub planned : (places sums mid mid′ places′ sums′ : List ℕ) (n : ℕ) → Possible (lineIn l s) → Room l places sums → Arrives (lineIn l s) start n
-      → Written (lineIn l s) n places sums mid mid′ → Cleared 2 mid places′ n → Cleared 4 mid′ sums′ n → Success (dealIn l s) n places sums places′ sums′
-  planned places sums mid mid′ places′ sums′ n d r a w cp cs =
-      let k = known l s p cf vf in
-      subst (λ (x : Deal). Success x n places sums places′ sums′) (same-deal l s)
-      (laid (l .sides) (onesIn l) (costsIn l s) (valuesIn l s) (l .all) places sums mid mid′ places′ sums′ n
-      (record {
-        known = k;
-        possible = d;
-        places-room = rw (← k .units-are) (r .places-room);
-        sums-room = rw (← k .units-are) (r .sums-room);
-      })
-      a w cp cs)
 
 -- one deal, so no plan of one is a plan of the other
 pub no-plan : (l : Ladder) (s : List ℕ) → ((xs : List State) → Plan (lineIn l s) xs → ⊥) → (xs : List State) → Plan (dealIn l s) xs → ⊥

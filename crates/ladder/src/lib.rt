@@ -4,20 +4,21 @@ ghost use mathlib.Core.Bool.{true};
 ghost use Prim.Native.Nat.{_≤_};
 ghost use lib.ListN.{length};
 ghost use Rattle.area.specs.Entries.{entries};
-ghost use Rattle.exchange.specs.Arrival.{Arrives};
-ghost use Rattle.exchange.specs.Deal.{start, Safe};
+ghost use Rattle.exchange.specs.Deal.{Safe};
 ghost use Rattle.exchange.specs.PlanIn.{planIn};
-ghost use Rattle.exchange.specs.Possible.{Possible};
 ghost use Rattle.exchange.specs.Test.{boundsAt};
 ghost use Rattle.line.specs.CheckCode.{Judges};
-ghost use Rattle.line.specs.Code.{Decides, Written};
+ghost use Rattle.line.specs.Code.{Decides};
 ghost use Rattle.line.specs.Promise.{Answers};
 ghost use Rattle.ladder.specs.Rises.{Lies, Room, dealIn};
 ghost use Rattle.ladder.specs.Code.{Reached, Delivered, lineIn};
 
+mod opening;
 mod place;
+mod run;
 
 use exchange::Bounds;
+use exchange::Objective;
 use exchange::Planned;
 use exchange::Sides;
 use line::Totals;
@@ -34,6 +35,12 @@ pub struct Ladder {
     pub sides: Sides,
     pub all: Totals,
     pub first: usize,
+}
+
+// A first state: the rung that is delivered to, and what is paid.
+pub(crate) struct First {
+    pub rung: Rung,
+    pub paid: u32,
 }
 
 // Whether the lower bound of each place is at most the upper bound of the place before it.
@@ -86,41 +93,21 @@ fn deliver(l: Ladder, s: &[u8], from: Rung, paid: u32) -> Rung
     c
 }
 
-// The steps of the rule, written into the areas: how many it takes.
-fn fill(l: Ladder, s: &[u8], places: &mut [u8], sums: &mut [u8]) -> usize
-    requires { ⌜ Lies l (now s) × Possible (lineIn l (now s)) × Room l (now places) (now sums) ⌝ }
-    ensures { λ r. ⌜ Arrives (lineIn l (now (s .entry))) start r ⌝ }
-    ensures { λ r. ⌜ Written (lineIn l (now (s .entry))) r (now (places .entry)) (now (sums .entry)) (now (places .exit)) (now (sums .exit)) ⌝ }
-{
-    let mut c = bottom();
-    let mut paid = 0;
-    let mut n = 0;
-    loop {
-        if line::arrived(c.place, paid, l.all.units, l.sides.price) {
-            return n;
-        }
-        let sum = line::pay(l.sides, l.all, c.cost);
-        let to = deliver(l, s, c, paid);
-        area::store_u16(places, n, to.place as u16);
-        area::store_u32(sums, n, sum);
-        c = to;
-        paid = sum;
-        n += 1;
-    }
-}
-
-// Plans a ladder: the places and paid totals of the steps go to two byte areas, two and four bytes an entry, and zeros after them.
-pub fn plan(l: Ladder, s: &[u8], places: &mut [u8], sums: &mut [u8]) -> Planned
+// Plans a ladder for an aim: the places and paid totals of the steps go to two byte areas, two and four bytes an entry, and zeros after them.
+pub fn plan(l: Ladder, s: &[u8], aim: Objective, places: &mut [u8], sums: &mut [u8]) -> Planned
     requires { ⌜ Lies l (now s) × Room l (now places) (now sums) ⌝ }
-    ensures { λ r. ⌜ Answers (dealIn l (now (s .entry))) true r (now (places .entry)) (now (sums .entry)) (now (places .exit)) (now (sums .exit)) ⌝ }
+    ensures { λ r. ⌜ Answers aim (dealIn l (now (s .entry))) true r (now (places .entry)) (now (sums .entry)) (now (places .exit)) (now (sums .exit)) ⌝ }
 {
     if !possible(l, s) {
         return Planned::Impossible;
     }
-    let n = fill(l, s, places, sums);
-    area::clear_u16(places, n);
-    area::clear_u32(sums, n);
-    Planned::Steps(n)
+    let f = opening::first_for(l, s, aim);
+    let k = line::begin(f.rung.place, f.paid, places, sums);
+    let n = run::fill(l, s, f, k, places, sums);
+    let count = k + n;
+    area::clear_u16(places, count);
+    area::clear_u32(sums, count);
+    Planned::Steps(count)
 }
 
 // Both bounds of a place. The totals are those of the last one.

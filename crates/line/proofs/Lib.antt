@@ -4,6 +4,9 @@ pub mod SegmentLaws
 pub mod DealLaws
 -- the rule's steps in the areas
 pub mod RunLaws
+-- a first step before them
+pub mod FirstLaws
+pub mod OpeningLaws
 -- the bounds of a place
 pub mod PlaceLaws
 -- a brought plan followed step by step

@@ -2,45 +2,53 @@
 use mathlib.Core.Path.{_≡_, refl, sym, ap, _∙_, subst}
 use mathlib.Core.Logic.{_↔_, dite}
 use mathlib.Core.Bool.{Bool, true, false, _&&_, and-eq-true-iff}
-use mathlib.Core.List.{List, [], _∷_, map, _++_, append-assoc}
+use mathlib.Core.List.{List, [], _∷_, map, _++_, append-assoc, append-nil}
 use Prim.Native.Nat.{ℕ, zero, suc, _+_, _*_, _≤_, _<_, min}
 use native.Mathlib.Decide.{decLe}
 use native.Mathlib.Omega.{arith}
 use native.Mathlib.Numerals.{add-one}
 use borrow.Author.Tests.{eqb-true, eq-eqb, leb-true, le-leb}
 use lib.Dec.{T, eqb}
-use lib.ListN.{length, getD, drop, length-append, length-map}
+use lib.ListN.{length, getD, take, drop, length-append, length-map, length-take}
 use lib.Seq.{drop-cons, set-at, take-at}
 use Rattle.area.specs.Entries.{entries, Stored, Cleared}
 use Rattle.area.specs.Filled.{Filled}
 use Rattle.area.proofs.FilledLaws.{filled}
 use Rattle.exchange.specs.Arrival.{Arrives}
 use Rattle.exchange.specs.Bounds.{upperOf}
-use Rattle.exchange.specs.Deal.{Deal, State, ends, start, end}
+use Rattle.exchange.specs.Deal.{Deal, State, end}
 use Rattle.exchange.specs.Possible.{Possible}
 use Rattle.exchange.specs.Rule.{coins, rule, ruled}
 use Rattle.exchange.specs.Work.{workOf}
 use Rattle.exchange.specs.declared.Sides.{Sides}
 use Rattle.exchange.proofs.Bridge.{coins-low}
-use Rattle.exchange.proofs.GivenOrder.{ruled-arrives}
 use Rattle.exchange.proofs.GivenOrder.Greedy.{Stands, greedy, greedy-leads}
 use Rattle.exchange.proofs.GivenOrder.Lead.{run-keeps}
-use Rattle.exchange.proofs.GivenOrder.RuleLaws.{rule-greedy, ruled-run}
+use Rattle.exchange.proofs.GivenOrder.RuleLaws.{rule-greedy, ruled-run, ruled-length}
+use Rattle.exchange.proofs.GivenOrder.Starts.{step-stands}
+use Rattle.exchange.proofs.Objectives.{from-exists}
 use Rattle.exchange.proofs.GivenOrder.Run.{run, run-add, state-eq}
 use Rattle.line.specs.Segments.{spread, fits, dealAlong}
-use Rattle.line.specs.Promise.{Success, suits}
-use Rattle.line.specs.Code.{Fit, Known, At, Reached, Delivered, origin, Holds, Ready, Written, Room, stateAt}
+use Rattle.line.specs.Promise.{suits}
+use Rattle.line.specs.Code.{Fit, Known, At, Reached, Delivered, Holds, Written, Begins, Room, stateAt}
 use Rattle.line.specs.declared.Cursor.{Cursor}
 use Rattle.line.specs.declared.Totals.{Totals}
-use Rattle.line.proofs.SegmentLaws.{at-origin, fits↔, not-so}
+use Rattle.line.proofs.SegmentLaws.{fits↔, not-so}
 use Rattle.line.proofs.DealLaws.{rising, on-line, upper-at}
 
 -- ---- an area, entry by entry
 
-holds-none : (w : ℕ) (area : List ℕ) → Holds w [] area area
-holds-none w area = record { entries-are = refl; remainder-kept = refl; length-kept = refl }
+take-rest : (k : ℕ) (l : List ℕ) → take k l ++ drop (length (take k l)) l ≡ l
+take-rest zero l = refl
+take-rest (suc k) [] = refl
+take-rest (suc k) (x ∷ l) = ap (λ (r : List ℕ). x ∷ r) (take-rest k l)
 
-holds-next : (w : ℕ) (xs before mid after : List ℕ) (n v : ℕ) → Holds w xs before mid → Stored w mid after n v → length xs ≡ n
+-- nothing yet, from entry k on
+pub holds-none : (w k : ℕ) (area : List ℕ) → Holds w (take k (entries w area) ++ []) area area
+holds-none w k area =
+    record { entries-are = rw (append-nil (take k (entries w area))) (sym (take-rest k (entries w area))); remainder-kept = refl; length-kept = refl }
+
+pub holds-next : (w : ℕ) (xs before mid after : List ℕ) (n v : ℕ) → Holds w xs before mid → Stored w mid after n v → length xs ≡ n
     → n < length (entries w before) → Holds w (xs ++ v ∷ []) before after
 holds-next w xs before mid after n v h s l r =
     let old = entries w before in
@@ -61,127 +69,157 @@ holds-cleared w xs before mid after n h c l =
 
 -- ---- the rule's states
 
-module _ (d : Deal) where
-  pub ruled-length : (s : State) (n : ℕ) → length (ruled d s n) ≡ n
-  unfolding ruled
-  ruled-length s zero = refl
-  ruled-length s (suc n) = ap suc (ruled-length (rule d s) n)
+state-suc : (d : Deal) (f : State) (n : ℕ) → stateAt d f (suc n) ≡ rule d (stateAt d f n)
+state-suc d f n =
+    let g = greedy (workOf d) in
+    let e : suc n ≡ n + 1 = omega arith in
+    ruled-run d f (suc n) ∙ ap (run g f) e ∙ run-add g f n 1 ∙ ap g (sym (ruled-run d f n)) ∙ sym (rule-greedy d (stateAt d f n))
 
-  ruled-snoc : (f : State → ℕ) (s : State) (n : ℕ) → map f (ruled d s (suc n)) ≡ map f (ruled d s n) ++ f (rule d (ends s (ruled d s n))) ∷ []
-  unfolding ruled
-  ruled-snoc f s zero = refl
-  ruled-snoc f s (suc n) = ap (λ (xs : List ℕ). f (rule d s) ∷ xs) (ruled-snoc f (rule d s) n)
+ruled-snoc : (d : Deal) (f : State → ℕ) (s : State) (n : ℕ) → map f (ruled d s (suc n)) ≡ map f (ruled d s n) ++ f (rule d (stateAt d s n)) ∷ []
+unfolding ruled
+ruled-snoc d f s zero = refl
+ruled-snoc d f s (suc n) = ap (λ (xs : List ℕ). f (rule d s) ∷ xs) (ruled-snoc d f (rule d s) n)
 
-  state-suc : (n : ℕ) → stateAt d (suc n) ≡ rule d (stateAt d n)
-  state-suc n =
-      let g = greedy (workOf d) in
-      let e : suc n ≡ n + 1 = omega arith in
-      ruled-run d start (suc n) ∙ ap (run g start) e ∙ run-add g start n 1 ∙ ap g (sym (ruled-run d start n)) ∙ sym (rule-greedy d (stateAt d n))
-
-  -- the numbers of the states after n steps in an area, and of one step more
-  area-next : (w : ℕ) (f : State → ℕ) (before mid after : List ℕ) (n v : ℕ) → Holds w (map f (ruled d start n)) before mid
-      → Stored w mid after n v → n < length (entries w before) → v ≡ f (rule d (stateAt d n)) → Holds w (map f (ruled d start (suc n))) before after
-  area-next w f before mid after n v h s r e =
-      rw (ruled-snoc f start n, ← e)
-      (holds-next w (map f (ruled d start n)) before mid after n v h s (length-map (ruled d start n) f ∙ ruled-length start n) r)
+-- the numbers of n states from entry k on in an area, and of one state more
+area-next : (d : Deal) (s : State) (w : ℕ) (f : State → ℕ) (before mid after : List ℕ) (k n v : ℕ)
+    → Holds w (take k (entries w before) ++ map f (ruled d s n)) before mid
+    → Stored w mid after (k + n) v → k + n < length (entries w before) → v ≡ f (rule d (stateAt d s n))
+    → Holds w (take k (entries w before) ++ map f (ruled d s (suc n))) before after
+area-next d s w f before mid after k n v h st r e =
+    let front = take k (entries w before) in
+    let long : length (front ++ map f (ruled d s n)) ≡ k + n =
+    simp (length-append, length-map, ruled-length d s n, length-take) (omega arith) in
+    rw (ruled-snoc d f s n, ← e, ← append-assoc front (map f (ruled d s n)) (v ∷ []))
+    (holds-next w (front ++ map f (ruled d s n)) before mid after (k + n) v h st long r)
 
 -- ---- the loop that writes them
 
 module _ (s : Sides) (us cs vs : List ℕ) where
-  -- n steps are written and the cursor stands after them, not at the end before
-  pub record Going (places sums places′ sums′ : List ℕ) (c : Cursor) (paid n : ℕ) : Type 0 where
+  -- the cursor stands after n steps by the rule from f, and the end was not reached before
+  pub record Along (f : State) (c : Cursor) (paid n : ℕ) : Type 0 where
     pub at : At us cs vs c
-    pub state-is : stateAt (dealAlong s us cs vs) n ≡ record { place = c .place; paid = paid }
-    pub not-before : (k : ℕ) → k < n → stateAt (dealAlong s us cs vs) k ≡ end (dealAlong s us cs vs) → ⊥
-    pub written : Written (dealAlong s us cs vs) n places sums places′ sums′
+    pub state-is : stateAt (dealAlong s us cs vs) f n ≡ record { place = c .place; paid = paid }
+    pub not-before : (k : ℕ) → k < n → stateAt (dealAlong s us cs vs) f k ≡ end (dealAlong s us cs vs) → ⊥
 
-  module _ (t : Totals) (k : Known us cs vs t) where
-    pub going-start : (places sums : List ℕ) (c : Cursor) → c ≡ origin → Going places sums places sums c 0 0
-    unfolding ruled
-    going-start places sums c o =
-        rw o
-        (record {
-          at = at-origin us cs vs (k .fit);
-          state-is = refl;
-          not-before = λ j (h : j < 0). absurd (omega arith);
-          written = record { places-hold = holds-none 2 places; sums-hold = holds-none 4 sums };
-        })
+  -- and these steps are written from entry k on where there is room
+  pub record Going (f : State) (k : ℕ) (places sums places′ sums′ : List ℕ) (c : Cursor) (paid n : ℕ) : Type 0 where
+    pub along : Along f c paid n
+    pub places-long : length places′ ≡ length places
+    pub sums-long : length sums′ ≡ length sums
+    pub written : Room 2 us cs places → Room 4 us cs sums → Written k (ruled (dealAlong s us cs vs) f n) places sums places′ sums′
 
-    module _ {places sums places′ sums′ : List ℕ} {c : Cursor} {paid n : ℕ} (g : Going places sums places′ sums′ c paid n) where
-      -- the test of the end
-      pub end-test : (b : Bool) → b ≡ (eqb (c .place) (t .units) && eqb paid (s .price))
-          → (b ≡ true) ↔ (stateAt (dealAlong s us cs vs) n ≡ end (dealAlong s us cs vs))
-      end-test b e = (
-        λ h.
-            let f = and-eq-true-iff _ _ .0 (sym e ∙ h) in
-            g .state-is ∙ state-eq (eqb-true _ _ (f .0) ∙ k .units-are) (eqb-true _ _ (f .1)),
-        λ h.
-            let f = sym (g .state-is) ∙ h in
-            e ∙ rw (eq-eqb _ _ (ap (λ (u : State). u .place) f ∙ sym (k .units-are)), eq-eqb _ _ (ap (λ (u : State). u .paid) f)),
-      )
+  pub along-start : (c : Cursor) (paid : ℕ) → At us cs vs c → Along (record { place = c .place; paid = paid }) c paid 0
+  unfolding ruled
+  along-start c paid a = record { at = a; state-is = refl; not-before = λ j (h : j < 0). absurd (omega arith) }
 
-      pub going-arrives : (b : Bool) → b ≡ (eqb (c .place) (t .units) && eqb paid (s .price)) → b ≡ true → Arrives (dealAlong s us cs vs) start n
-      going-arrives b e h = record { there = end-test b e .0 h; not-before = g .not-before }
+  pub going-start : (c : Cursor) (paid k : ℕ) (places sums : List ℕ) → At us cs vs c
+      → Going (record { place = c .place; paid = paid }) k places sums places sums c paid 0
+  unfolding ruled
+  going-start c paid k places sums a =
+      record {
+        along = along-start c paid a;
+        places-long = refl;
+        sums-long = refl;
+        written = λ _ _. record { places-hold = holds-none 2 k places; sums-hold = holds-none 4 k sums };
+      }
 
-      module _ (p : Possible (dealAlong s us cs vs)) where
-        -- the rule's state is safe
-        pub going-low : Reached s us cs vs paid c
-        going-low =
-            let d = dealAlong s us cs vs in
-            let first : Stands (workOf d) start =
-            record { in-deal = omega arith; covered = coins-low _ 0 .0 (p .start-safe .low); afforded = omega arith } in
-            let stands : Stands (workOf d) (stateAt d n) = rw (ruled-run d start n) (run-keeps (greedy-leads (on-line s us cs vs)) start first n) in
-            let here = rw (g .state-is) at stands in
-            record { at = g .at; low = coins-low _ paid .1 (here .covered) }
+  module _ (t : Totals) (known : Known us cs vs t) {f : State} {c : Cursor} {paid n : ℕ} (g : Along f c paid n) where
+    -- the test of the end
+    end-test : (b : Bool) → b ≡ (eqb (c .place) (t .units) && eqb paid (s .price))
+        → (b ≡ true) ↔ (stateAt (dealAlong s us cs vs) f n ≡ end (dealAlong s us cs vs))
+    end-test b e = (
+      λ h.
+          let f = and-eq-true-iff _ _ .0 (sym e ∙ h) in
+          g .state-is ∙ state-eq (eqb-true _ _ (f .0) ∙ known .units-are) (eqb-true _ _ (f .1)),
+      λ h.
+          let f = sym (g .state-is) ∙ h in
+          e ∙ rw (eq-eqb _ _ (ap (λ (u : State). u .place) f ∙ sym (known .units-are)), eq-eqb _ _ (ap (λ (u : State). u .paid) f)),
+    )
 
-        -- before the end there is room for one more step
-        pub not-yet : (stateAt (dealAlong s us cs vs) n ≡ end (dealAlong s us cs vs) → ⊥) → n < 2 * length (spread us cs) + 1
-        not-yet f =
-            dite (decLe (2 * length (spread us cs) + 1) n)
-            (λ q. absurd (f (ruled-arrives (dealAlong s us cs vs) (rising s us cs vs) (λ a b. refl) p n q)))
-            (λ (q : 2 * length (spread us cs) + 1 ≤ n → ⊥). omega arith)
+    pub along-far : (b : Bool) → b ≡ (eqb (c .place) (t .units) && eqb paid (s .price)) → b ≡ false
+        → stateAt (dealAlong s us cs vs) f n ≡ end (dealAlong s us cs vs) → ⊥
+    along-far b e h q = subst T (sym (end-test b e .1 q) ∙ h) tt
 
-        -- one step more
-        pub going-next : (stateAt (dealAlong s us cs vs) n ≡ end (dealAlong s us cs vs) → ⊥)
-            → Room 2 us cs places → Room 4 us cs sums
-            → (c′ : Cursor) (q : ℕ) (places″ sums″ : List ℕ) → Delivered s us cs vs paid c′
-            → q ≡ min (coins (upperOf (s .price) (t .cost) (c .cost) (s .supplier))) (s .price)
-            → Stored 2 places′ places″ n (c′ .place) → Stored 4 sums′ sums″ n q → Going places sums places″ sums″ c′ q (n + 1)
-        unfolding rule
-        going-next f rp rs c′ q places″ sums″ m e sp ss =
-            let d = dealAlong s us cs vs in
-            let h = not-yet f in
-            let step : rule d (stateAt d n) ≡ record { place = c′ .place; paid = q } =
-            ap (rule d) (g .state-is) ∙ state-eq (sym (m .reached)) (sym (rw (upper-at s us cs vs t k c (g .at)) at e)) in
-            rw (add-one n)
-            (record {
-              at = m .at;
-              state-is = state-suc d n ∙ step;
-              not-before =
-                  λ j l. dite (decLe n j) (λ (u : n ≤ j). let w : n ≡ j = omega arith in rw w at f) (λ (u : n ≤ j → ⊥). g .not-before j (omega arith));
-              written =
-                  record {
-                    places-hold = area-next d 2 (λ u. u .place) places places′ places″ n (c′ .place) (g .written .places-hold) sp (omega arith) (ap (λ (u : State). u .place) (sym step));
-                    sums-hold = area-next d 4 (λ u. u .paid) sums sums′ sums″ n q (g .written .sums-hold) ss (omega arith) (ap (λ (u : State). u .paid) (sym step));
-                  };
-            })
+    pub along-arrives : (b : Bool) → b ≡ (eqb (c .place) (t .units) && eqb paid (s .price)) → b ≡ true → Arrives (dealAlong s us cs vs) f n
+    along-arrives b e h = record { there = end-test b e .0 h; not-before = g .not-before }
+
+    module _ (p : Possible (dealAlong s us cs vs)) {k : ℕ} (begins : Begins (dealAlong s us cs vs) f k) where
+      -- the rule's state is safe
+      pub along-low : Reached s us cs vs paid c
+      along-low =
+          let d = dealAlong s us cs vs in
+          let o = on-line s us cs vs in
+          let first : Stands (workOf d) f = step-stands o (coins-low _ 0 .0 (p .start-safe .low)) f (begins .step) in
+          let stands : Stands (workOf d) (stateAt d f n) = rw (ruled-run d f n) (run-keeps (greedy-leads o) f first n) in
+          let here = rw (g .state-is) at stands in
+          record { at = g .at; low = coins-low _ paid .1 (here .covered) }
+
+      -- before the end there is room for one more step
+      pub not-yet : (stateAt (dealAlong s us cs vs) f n ≡ end (dealAlong s us cs vs) → ⊥) → k + n < 2 * length (spread us cs) + 1
+      not-yet far = go (from-exists (dealAlong s us cs vs) (rising s us cs vs) (λ a b. refl) p f (begins .step))
+        where
+          go : (m : ℕ) × Arrives (dealAlong s us cs vs) f m → k + n < 2 * length (spread us cs) + 1
+          go (m, a) =
+              dite (decLe m n)
+              (λ (q : m ≤ n). absurd (dite (decLe n m)
+              (λ (u : n ≤ m). let e : n ≡ m = omega arith in far (rw e (a .there)))
+              (λ (u : n ≤ m → ⊥). g .not-before m (omega arith) (a .there))))
+              (λ (q : m ≤ n → ⊥). omega (arith, begins .short m a))
+
+    -- one step more
+    module _ (far : stateAt (dealAlong s us cs vs) f n ≡ end (dealAlong s us cs vs) → ⊥) (c′ : Cursor) (q : ℕ) (m : Delivered s us cs vs paid c′)
+        (e : q ≡ min (coins (upperOf (s .price) (t .cost) (c .cost) (s .supplier))) (s .price)) where
+      step-is : rule (dealAlong s us cs vs) (stateAt (dealAlong s us cs vs) f n) ≡ record { place = c′ .place; paid = q }
+      unfolding rule
+      step-is =
+          ap (rule (dealAlong s us cs vs)) (g .state-is)
+          ∙ state-eq (sym (m .reached)) (sym (rw (upper-at s us cs vs t known c (g .at)) at e))
+
+      pub along-next : Along f c′ q (n + 1)
+      along-next =
+          rw (add-one n)
+          (record {
+            at = m .at;
+            state-is = state-suc (dealAlong s us cs vs) f n ∙ step-is;
+            not-before =
+                λ j l. dite (decLe n j) (λ (u : n ≤ j). let w : n ≡ j = omega arith in rw w at far) (λ (u : n ≤ j → ⊥). g .not-before j (omega arith));
+          })
+
+      pub written-next : {k : ℕ} {places sums places′ sums′ : List ℕ} → Written k (ruled (dealAlong s us cs vs) f n) places sums places′ sums′
+          → k + n < length (entries 2 places) → k + n < length (entries 4 sums) → (places″ sums″ : List ℕ) → Stored 2 places′ places″ (k + n) (c′ .place)
+          → Stored 4 sums′ sums″ (k + n) q → Written k (ruled (dealAlong s us cs vs) f (n + 1)) places sums places″ sums″
+      written-next {k} w hp hs places″ sums″ sp ss =
+          let d = dealAlong s us cs vs in
+          rw (add-one n)
+          (record {
+            places-hold = area-next d f 2 (λ u. u .place) _ _ places″ k n (c′ .place) (w .places-hold) sp hp (ap (λ (u : State). u .place) (sym step-is));
+            sums-hold = area-next d f 4 (λ u. u .paid) _ _ sums″ k n q (w .sums-hold) ss hs (ap (λ (u : State). u .paid) (sym step-is));
+          })
+
+    -- one step more, stored where there is room
+    pub going-next : {k : ℕ} {places sums places′ sums′ : List ℕ} → Going f k places sums places′ sums′ c paid n
+        → k + n < 2 * length (spread us cs) + 1 → (stateAt (dealAlong s us cs vs) f n ≡ end (dealAlong s us cs vs) → ⊥) → (c′ : Cursor) (q : ℕ)
+        → Delivered s us cs vs paid c′ → q ≡ min (coins (upperOf (s .price) (t .cost) (c .cost) (s .supplier))) (s .price)
+        → (places″ sums″ : List ℕ) → Stored 2 places′ places″ (k + n) (c′ .place) → Stored 4 sums′ sums″ (k + n) q
+        → Going f k places sums places″ sums″ c′ q (n + 1)
+    going-next h room far c′ q m e places″ sums″ sp ss =
+        record {
+          along = along-next far c′ q m e;
+          places-long = sp .length-kept ∙ h .places-long;
+          sums-long = ss .length-kept ∙ h .sums-long;
+          written = λ rp rs. written-next far c′ q m e (h .written rp rs) (omega arith) (omega arith) places″ sums″ sp ss;
+        }
 
 -- ---- the whole plan
 
 -- the steps written, and the entries after them cleared
-pub laid : (s : Sides) (us cs vs : List ℕ) (t : Totals) (places sums mid mid′ places′ sums′ : List ℕ) (n : ℕ) → Ready s us cs vs t places sums
-    → Arrives (dealAlong s us cs vs) start n → Written (dealAlong s us cs vs) n places sums mid mid′ → Cleared 2 mid places′ n
-    → Cleared 4 mid′ sums′ n → Success (dealAlong s us cs vs) n places sums places′ sums′
-laid s us cs vs t places sums mid mid′ places′ sums′ n r a w cp cs′ =
-    let d = dealAlong s us cs vs in
-    let safe = r .possible .start-safe in
-    let long : (f : State → ℕ) → length (map f (ruled d start n)) ≡ n = λ f. length-map (ruled d start n) f ∙ ruled-length d start n in
-    record {
-      start-safe = safe;
-      arrives = a;
-      places-are = holds-cleared 2 _ places mid places′ n (w .places-hold) cp (long _);
-      sums-are = holds-cleared 4 _ sums mid′ sums′ n (w .sums-hold) cs′ (long _);
-    }
+pub filled-by : (xs : List State) (places sums mid mid′ places′ sums′ : List ℕ) (n : ℕ) → n ≡ length xs → Written 0 xs places sums mid mid′
+    → Cleared 2 mid places′ n → Cleared 4 mid′ sums′ n
+    → Filled 2 (map (λ s. s .place) xs) places places′ × Filled 4 (map (λ s. s .paid) xs) sums sums′
+filled-by xs places sums mid mid′ places′ sums′ n l w cp cs = (
+  holds-cleared 2 _ places mid places′ n (w .places-hold) cp (length-map xs _ ∙ sym l),
+  holds-cleared 4 _ sums mid′ sums′ n (w .sums-hold) cs (length-map xs _ ∙ sym l),
+)
 
 -- the segments and both areas suit exactly if the segments fit and there is room
 suits↔ : (us cs vs places sums : List ℕ)

@@ -1,10 +1,10 @@
 -- What the functions of this crate ask and give.
 use mathlib.Core.Path.{_≡_}
 use mathlib.Core.Bool.{Bool, true, false}
-use mathlib.Core.List.{List, map, _++_}
+use mathlib.Core.List.{List, [], map, _++_}
 use Prim.Native.Nat.{ℕ, _+_, _*_, _≤_, _<_, _^_}
 use lib.IntN.{pos}
-use lib.ListN.{length, getD, drop}
+use lib.ListN.{length, getD, take, drop}
 use lib.Signed.{leZ, _≤ℤ_}
 use Rattle.area.specs.Entries.{entries, remainder}
 use Rattle.exchange.specs.Bounds.{upperOf, lowerOf}
@@ -12,11 +12,15 @@ use Rattle.exchange.specs.Deal.{Deal, State, Plan, start, ends}
 use Rattle.exchange.specs.Forms.{along}
 use Rattle.exchange.specs.Rule.{reach, ruled}
 use Rattle.exchange.specs.Possible.{Possible}
+use Rattle.exchange.specs.Arrival.{Arrives}
+use Rattle.exchange.specs.Work.{WorkStep, workOf}
+use Rattle.exchange.specs.Objectives.{opening, Opens}
 use Rattle.exchange.specs.declared.Bounds.{Bounds}
 use Rattle.exchange.specs.declared.Sides.{Sides}
 use Rattle.line.specs.Segments.{spread, fits, allHave, dealAlong}
 use Rattle.line.specs.declared.Cursor.{Cursor}
 use Rattle.line.specs.declared.sums.Summed.{Summed}
+use Rattle.line.specs.declared.First.{First}
 use Rattle.line.specs.declared.Totals.{Totals}
 
 -- the sum of the first k numbers
@@ -98,9 +102,23 @@ pub record Holds (w : ℕ) (xs before after : List ℕ) : Type 0 where
   pub remainder-kept : remainder w after ≡ remainder w before
   pub length-kept : length after ≡ length before
 
--- the state after n steps by the rule
-abbrev pub stateAt : Deal → ℕ → State
-stateAt d n = ends start (ruled d start n)
+-- the state after n steps by the rule from f
+abbrev pub stateAt : Deal → State → ℕ → State
+stateAt d f n = ends f (ruled d f n)
+
+-- one step from the start leads to f, and with k steps before them the rule's steps from f are no more than 2U + 1
+pub record Begins (d : Deal) (f : State) (k : ℕ) : Type 0 where
+  pub step : WorkStep (workOf d) start f
+  pub short : (n : ℕ) → Arrives d f n → k + n ≤ 2 * d .last + 1
+
+-- the cursor and the payment stand there
+pub record Sets (s : Sides) (us cs vs : List ℕ) (c : Cursor) (paid k : ℕ) : Type 0 where
+  pub at : At us cs vs c
+  pub begins : Begins (dealAlong s us cs vs) (record { place = c .place; paid = paid }) k
+
+-- the state of a first step
+abbrev pub stateOf : First → State
+stateOf r = record { place = r .cursor .place; paid = r .paid }
 
 -- the bounds of the start, by the totals
 abbrev pub startBounds : Sides → Totals → Bounds
@@ -117,7 +135,23 @@ pub record Ready (s : Sides) (us cs vs : List ℕ) (t : Totals) (places sums : L
   pub places-room : Room 2 us cs places
   pub sums-room : Room 4 us cs sums
 
--- both areas after n steps by the rule, up to their last entries
-pub record Written (d : Deal) (n : ℕ) (places sums places′ sums′ : List ℕ) : Type 0 where
-  pub places-hold : Holds 2 (map (λ s. s .place) (ruled d start n)) places places′
-  pub sums-hold : Holds 4 (map (λ s. s .paid) (ruled d start n)) sums sums′
+-- both areas hold these states from entry k on, and are as they were before and after them
+pub record Written (k : ℕ) (xs : List State) (places sums places′ sums′ : List ℕ) : Type 0 where
+  pub places-hold : Holds 2 (take k (entries 2 places) ++ map (λ s. s .place) xs) places places′
+  pub sums-hold : Holds 4 (take k (entries 4 sums) ++ map (λ s. s .paid) xs) sums sums′
+
+-- n steps by the rule lead from f to the end, and are written from entry k on where both areas have room for them
+pub record Fills (s : Sides) (us cs vs : List ℕ) (f : State) (k n : ℕ) (places sums places′ sums′ : List ℕ) : Type 0 where
+  pub arrives : Arrives (dealAlong s us cs vs) f n
+  pub written : Room 2 us cs places → Room 4 us cs sums → Written k (ruled (dealAlong s us cs vs) f n) places sums places′ sums′
+
+-- n steps: the first one, to f, unless it is empty
+pub record Begun (f : State) (n : ℕ) (places sums places′ sums′ : List ℕ) : Type 0 where
+  pub count-is : n ≡ length (opening f [])
+  pub written : Written 0 (opening f []) places sums places′ sums′
+
+-- n is how many steps the plan has that opens with a first step to f
+pub record Counts (d : Deal) (f : State) (n : ℕ) : Type 0 where
+  pub steps : List State
+  pub opens : Opens d f steps
+  pub count-is : n ≡ length steps

@@ -3,6 +3,7 @@ pub mod Segments
 pub mod Promise
 -- what the private functions ask and give
 pub mod Code
+pub mod OpeningCode
 -- what the bounds of a place and the check of a plan promise
 pub mod BoundsPromise
 pub mod CheckPromise

@@ -1,26 +1,31 @@
 // Plans a deal along one order, given as segments: runs of units with one cost and one value.
 ghost use mathlib.Core.Path.{_≡_};
 ghost use mathlib.Core.Bool.{_&&_};
+ghost use mathlib.Core.List.{[]};
 ghost use Prim.Native.Nat.{_+_, _-_, min, _≤_, _<_, _^_};
 ghost use lib.Dec.{eqb};
 ghost use lib.IntN.{pos};
+ghost use lib.ListN.{length};
 ghost use lib.Signed.{leZ};
-ghost use Rattle.exchange.specs.Arrival.{Arrives};
+ghost use Rattle.area.specs.Entries.{entries};
 ghost use Rattle.exchange.specs.Bounds.{upperOf, lowerOf};
-ghost use Rattle.exchange.specs.Deal.{start};
 ghost use Rattle.exchange.specs.Rule.{coins};
+ghost use Rattle.exchange.specs.Objectives.{opening};
 ghost use Rattle.exchange.specs.Test.{safeTest};
 ghost use Rattle.line.specs.Segments.{dealAlong};
 ghost use Rattle.line.specs.Promise.{Plans, Success};
 ghost use Rattle.line.specs.BoundsPromise.{BoundsOf};
 ghost use Rattle.line.specs.CheckPromise.{Checks};
 ghost use Rattle.line.specs.CheckCode.{passes};
-ghost use Rattle.line.specs.Code.{Known, Reached, Delivered, Decides, Ready, Written, UnitsIn, startBounds, meet};
+ghost use Rattle.line.specs.Code.{Known, Reached, Delivered, Decides, Ready, Begun, UnitsIn, startBounds, meet};
 
 mod follow;
+mod opening;
 mod place;
+mod run;
 mod sums;
 
+use exchange::Objective;
 use exchange::Planned;
 use exchange::Sides;
 use place::advance;
@@ -45,6 +50,12 @@ pub struct Cursor {
     pub used: u16,
     pub cost: u32,
     pub value: u32,
+}
+
+// A first state: where the cursor stands, and what is paid.
+pub struct First {
+    pub cursor: Cursor,
+    pub paid: u32,
 }
 
 // What is paid at a place: the smaller of its upper bound and the price.
@@ -195,63 +206,61 @@ fn deliver(
         }
         let n = left(units, c);
         let k = units_in(free, value, n);
-        let to = leap(units, costs, values, c, k);
+        c = leap(units, costs, values, c, k);
         if k < n {
-            return to;
+            return c;
         }
-        c = to;
     }
     c
 }
 
-// The steps of the rule, written into the areas: how many it takes.
-fn fill(
-    sides: Sides,
-    t: Totals,
-    units: &[u16],
-    costs: &[u32],
-    values: &[u32],
-    places: &mut [u8],
-    sums: &mut [u8],
-) -> usize
-    requires { ⌜ Ready sides (now units) (now costs) (now values) t (now places) (now sums) ⌝ }
-    ensures { λ r. ⌜ Arrives (dealAlong sides (now (units .entry)) (now (costs .entry)) (now (values .entry))) start r ⌝ }
-    ensures { λ r. ⌜ Written (dealAlong sides (now (units .entry)) (now (costs .entry)) (now (values .entry))) r (now (places .entry)) (now (sums .entry)) (now (places .exit)) (now (sums .exit)) ⌝ }
+// How many steps a first step counts for: none if it is empty.
+pub fn first_count(place: usize, paid: u32) -> usize
+    ensures { λ r. ⌜ r ≡ length (opening (record { place = place; paid = paid }) []) ⌝ }
 {
-    let mut c = first();
-    let mut paid = 0;
-    let mut n = 0;
-    loop {
-        if arrived(c.place, paid, t.units, sides.price) {
-            return n;
+    if place == 0 {
+        if paid == 0 {
+            return 0;
         }
-        let sum = pay(sides, t, c.cost);
-        let to = deliver(sides, t, units, costs, values, c, paid);
-        area::store_u16(places, n, to.place as u16);
-        area::store_u32(sums, n, sum);
-        c = to;
-        paid = sum;
-        n += 1;
     }
+    1
 }
 
-// The steps of the rule in the areas, and zeros after them.
+// The first step, written into the areas unless it is empty: how many steps that makes.
+pub fn begin(place: usize, paid: u32, places: &mut [u8], sums: &mut [u8]) -> usize
+    requires { ⌜ (place < 2 ^ 16) × (0 < length (entries 2 (now places))) × (0 < length (entries 4 (now sums))) ⌝ }
+    ensures { λ r. ⌜ Begun (record { place = place; paid = paid }) r (now (places .entry)) (now (sums .entry)) (now (places .exit)) (now (sums .exit)) ⌝ }
+{
+    let n = first_count(place, paid);
+    if n == 0 {
+        return n;
+    }
+    area::store_u16(places, 0, place as u16);
+    area::store_u32(sums, 0, paid);
+    n
+}
+
+// The plan for an aim in the areas, and zeros after it.
 fn lay(
     sides: Sides,
     t: Totals,
     units: &[u16],
     costs: &[u32],
     values: &[u32],
+    aim: Objective,
     places: &mut [u8],
     sums: &mut [u8],
 ) -> usize
     requires { ⌜ Ready sides (now units) (now costs) (now values) t (now places) (now sums) ⌝ }
-    ensures { λ r. ⌜ Success (dealAlong sides (now (units .entry)) (now (costs .entry)) (now (values .entry))) r (now (places .entry)) (now (sums .entry)) (now (places .exit)) (now (sums .exit)) ⌝ }
+    ensures { λ r. ⌜ Success aim (dealAlong sides (now (units .entry)) (now (costs .entry)) (now (values .entry))) r (now (places .entry)) (now (sums .entry)) (now (places .exit)) (now (sums .exit)) ⌝ }
 {
-    let n = fill(sides, t, units, costs, values, places, sums);
-    area::clear_u16(places, n);
-    area::clear_u32(sums, n);
-    n
+    let f = opening::first_for(sides, t, units, costs, values, aim);
+    let k = begin(f.cursor.place, f.paid, places, sums);
+    let n = run::fill(sides, t, units, costs, values, f, k, places, sums);
+    let count = k + n;
+    area::clear_u16(places, count);
+    area::clear_u32(sums, count);
+    count
 }
 
 // Plans along the segments: the places and paid totals of the steps go to two byte areas, two and four bytes an entry.
@@ -260,10 +269,11 @@ pub fn plan(
     units: &[u16],
     costs: &[u32],
     values: &[u32],
+    aim: Objective,
     places: &mut [u8],
     sums: &mut [u8],
 ) -> Planned
-    ensures { λ r. ⌜ Plans sides (now (units .entry)) (now (costs .entry)) (now (values .entry)) r (now (places .entry)) (now (sums .entry)) (now (places .exit)) (now (sums .exit)) ⌝ }
+    ensures { λ r. ⌜ Plans aim sides (now (units .entry)) (now (costs .entry)) (now (values .entry)) r (now (places .entry)) (now (sums .entry)) (now (places .exit)) (now (sums .exit)) ⌝ }
 {
     let Summed::Fits(t) = add_up(units, costs, values) else {
         return Planned::Unfit;
@@ -278,7 +288,7 @@ pub fn plan(
     if !possible(sides, t, units, costs, values) {
         return Planned::Impossible;
     }
-    let n = lay(sides, t, units, costs, values, places, sums);
+    let n = lay(sides, t, units, costs, values, aim, places, sums);
     Planned::Steps(n)
 }
 

@@ -1,11 +1,13 @@
 // Plans the deal of a contract record, answers the bounds of a place, and checks a brought plan.
 ghost use mathlib.Core.Path.{_≡_};
 ghost use Rattle.exchange.specs.PlanIn.{planIn};
+ghost use Rattle.exchange.specs.declared.Objective.{Objective};
 ghost use Rattle.planning.specs.Answer.{answerOf, boundedOf, checkedOf};
-ghost use Rattle.planning.specs.Areas.{areas};
+ghost use Rattle.planning.specs.Areas.{areas, planAreas};
 ghost use Rattle.planning.specs.Bounds.{boundsOf};
 ghost use Rattle.planning.specs.Check.{aheadOfCheck, Checks};
-ghost use Rattle.planning.specs.Promise.{ahead, Plans};
+ghost use Rattle.planning.specs.Promise.{ahead, aheadAlong, Plans, PlansFor};
+use exchange::Objective;
 use planning::Bounded;
 use planning::Checked;
 use planning::Planned;
@@ -22,6 +24,42 @@ pub fn plan(
     ensures { λ r. ⌜ Plans (ahead (now (bytes .entry)) (areas (now (places .entry)) (now (sums .entry)) (now (order .entry)) (now (work .entry)))) (answerOf r) (areas (now (places .entry)) (now (sums .entry)) (now (order .entry)) (now (work .entry))) (areas (now (places .exit)) (now (sums .exit)) (now (order .exit)) (now (work .exit))) ⌝ }
 {
     plans::plan(bytes, places, sums, order, work)
+}
+
+// Plans a ladder or unit prices with fewest payments: it starts with a delivery only.
+pub fn plan_fewest_payments(
+    bytes: &[u8],
+    places: &mut [u8],
+    sums: &mut [u8],
+    order: &mut [u8],
+) -> Planned
+    ensures { λ r. ⌜ PlansFor Objective.Payments (aheadAlong (now (bytes .entry)) (planAreas (now (places .entry)) (now (sums .entry)) (now (order .entry)))) (answerOf r) (planAreas (now (places .entry)) (now (sums .entry)) (now (order .entry))) (planAreas (now (places .exit)) (now (sums .exit)) (now (order .exit))) ⌝ }
+{
+    fewest::plan(bytes, Objective::Payments, places, sums, order)
+}
+
+// Plans a ladder or unit prices with fewest deliveries: it starts with a payment only.
+pub fn plan_fewest_deliveries(
+    bytes: &[u8],
+    places: &mut [u8],
+    sums: &mut [u8],
+    order: &mut [u8],
+) -> Planned
+    ensures { λ r. ⌜ PlansFor Objective.Deliveries (aheadAlong (now (bytes .entry)) (planAreas (now (places .entry)) (now (sums .entry)) (now (order .entry)))) (answerOf r) (planAreas (now (places .entry)) (now (sums .entry)) (now (order .entry))) (planAreas (now (places .exit)) (now (sums .exit)) (now (order .exit))) ⌝ }
+{
+    fewest::plan(bytes, Objective::Deliveries, places, sums, order)
+}
+
+// Plans a ladder or unit prices with fewest moves, payments and deliveries together: it is the one of these two plans with fewer moves.
+pub fn plan_fewest_moves(
+    bytes: &[u8],
+    places: &mut [u8],
+    sums: &mut [u8],
+    order: &mut [u8],
+) -> Planned
+    ensures { λ r. ⌜ PlansFor Objective.Moves (aheadAlong (now (bytes .entry)) (planAreas (now (places .entry)) (now (sums .entry)) (now (order .entry)))) (answerOf r) (planAreas (now (places .entry)) (now (sums .entry)) (now (order .entry))) (planAreas (now (places .exit)) (now (sums .exit)) (now (order .exit))) ⌝ }
+{
+    fewest::plan(bytes, Objective::Moves, places, sums, order)
 }
 
 // The bounds of a place along the order that the order bytes name.

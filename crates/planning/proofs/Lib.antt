@@ -13,3 +13,5 @@ pub mod LadderFound
 pub mod LadderPlan
 pub mod PricesPlan
 pub mod TablePlan
+-- our plan beside one that is brought
+pub mod Rivals

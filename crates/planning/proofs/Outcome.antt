@@ -10,10 +10,13 @@ use borrow.Author.Tests.{leb-true}
 use Rattle.area.specs.Entries.{entries}
 use Rattle.contract.specs.Res.{Res, refused, ok, test}
 use Rattle.contract.specs.Contract.{Contract}
+use Rattle.contract.specs.declared.Form.{Form}
+use Rattle.exchange.specs.Deal.{Deal, State}
 use Rattle.exchange.specs.PlanIn.{planIn}
+use Rattle.exchange.specs.declared.Objective.{Objective}
 use Rattle.planning.specs.Order.{namesOrder, dealBy}
 use Rattle.planning.specs.Areas.{Areas, hasRoom, roomFor}
-use Rattle.planning.specs.Promise.{Success, roomed, Plans}
+use Rattle.planning.specs.Promise.{Claimed, SuccessFor, roomed, PlansFor}
 use Rattle.planning.proofs.LinePlan.{Laid}
 
 -- the room that the areas have
@@ -38,16 +41,16 @@ module _ (named order : List ℕ) (eight : length named ≡ 8) (long : 8 ≤ len
   stored-rest = subst (λ m. drop m (named ++ drop 8 order) ≡ drop 8 order) eight (drop-append-seam named (drop 8 order))
 
 -- what the areas hold after n steps were laid out along the order that is stored
-pub record Written (k : Contract) (n : ℕ) (named : List ℕ) (a a′ : Areas) : Type 0 where
+pub record Written (aim : Objective) (k : Contract) (n : ℕ) (named : List ℕ) (a a′ : Areas) : Type 0 where
   pub eight : length named ≡ 8
   pub long : 8 ≤ length (a .order)
   pub order-is : a′ .order ≡ named ++ drop 8 (a .order)
   pub names : namesOrder k (named ++ drop 8 (a .order)) ≡ true
-  pub laid : Laid (k .form) (dealBy k (named ++ drop 8 (a .order))) n (planIn n (a′ .places) (a′ .sums)) (a .places) (a .sums) (a′ .places) (a′ .sums)
+  pub laid : Laid (Claimed aim (k .form)) (dealBy k (named ++ drop 8 (a .order))) n (planIn n (a′ .places) (a′ .sums)) (a .places) (a .sums) (a′ .places) (a′ .sums)
   pub work-is : a′ .work ≡ replicate (length (a .work)) 0
 
-pub success : (k : Contract) (n : ℕ) (named : List ℕ) (a a′ : Areas) → Written k n named a a′ → Success k n a a′
-success k n named a a′ w =
+pub success : (aim : Objective) (k : Contract) (n : ℕ) (named : List ℕ) (a a′ : Areas) → Written aim k n named a a′ → SuccessFor aim k n a a′
+success aim k n named a a′ w =
     record {
       order = rw (w .order-is) (w .names);
       ours = rw (w .order-is) (w .laid .is-ours);
@@ -58,12 +61,20 @@ success k n named a a′ w =
       work = w .work-is;
     }
 
+-- whatever is claimed, there are n steps
+pub claimed-steps : (aim : Objective) (f : Form) (d : Deal) (n : ℕ) (ours : List State) → Claimed aim f d n ours → n ≡ length ours
+claimed-steps Objective.Steps f d n ours h = h .steps
+claimed-steps Objective.Payments f d n ours h = h .steps
+claimed-steps Objective.Deliveries f d n ours h = h .steps
+claimed-steps Objective.Moves f d n ours h = h .steps
+
 -- ---- refusal 8
 
 -- an area is too short
-pub short-said : (k : Contract) (a : Areas) → roomFor k a ≡ false → Plans (roomed k a) (refused 8) a a
-short-said k a e = rw e (refl, refl)
+pub short-said : (aim : Objective) (k : Contract) (a : Areas) → roomFor k a ≡ false → PlansFor aim (roomed k a) (refused 8) a a
+short-said aim k a e = rw e (refl, refl)
 
 -- the areas have room
-pub room-said : (k : Contract) (answer : Res ℕ) (a a′ : Areas) → roomFor k a ≡ true → Plans (ok k) answer a a′ → Plans (roomed k a) answer a a′
-room-said k answer a a′ e h = subst (λ b. Plans (test 8 b (ok k)) answer a a′) (sym e) h
+pub room-said : (aim : Objective) (k : Contract) (answer : Res ℕ) (a a′ : Areas) → roomFor k a ≡ true → PlansFor aim (ok k) answer a a′
+    → PlansFor aim (roomed k a) answer a a′
+room-said aim k answer a a′ e h = subst (λ b. PlansFor aim (test 8 b (ok k)) answer a a′) (sym e) h

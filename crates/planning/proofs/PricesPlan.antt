@@ -14,6 +14,7 @@ use Rattle.exchange.specs.Deal.{Deal, State, Plan}
 use Rattle.exchange.specs.Forms.{inOrder}
 use Rattle.exchange.specs.Choice.{together, choose}
 use Rattle.exchange.specs.Named.{eachOnce}
+use Rattle.exchange.specs.declared.Objective.{Objective}
 use Rattle.exchange.specs.declared.Sides.{Sides}
 use Rattle.exchange.proofs.Choice.{chosen, none-plans, unsafe-plans}
 use Rattle.exchange.proofs.Choice.Named.{each-once}
@@ -28,7 +29,7 @@ use Rattle.order.proofs.NamedLaws.{names-numbered, items-numbered}
 use Rattle.planning.specs.Deals.{contractWith, NoPlan}
 use Rattle.planning.specs.Order.{orderIn}
 use Rattle.planning.specs.Areas.{Areas, roomFor}
-use Rattle.planning.specs.Promise.{Success}
+use Rattle.planning.specs.Promise.{SuccessFor}
 use Rattle.planning.proofs.LinePlan.{line-laid}
 use Rattle.planning.proofs.Outcome.{room, success}
 use Rattle.planning.proofs.NamedOrder.{few-items, units-in-range, units-some, named-deal, named-units, named-fits}
@@ -111,22 +112,22 @@ module _ (s : Sides) (us cs vs : List ℕ) (v : Valid (contractWith UnitPrices s
         let (xs, p) = plan-exists (inOrder s cs vs τ) (order-rising s cs vs τ) (λ a b. refl) .1 (chosen s us cs vs items e .possible safe) in
         no-plan xs (rw (same-deal, same) p))
 
-    pub prices-success : (n : ℕ) (a a′ : Areas) → roomFor (contractWith UnitPrices s us cs vs) a ≡ true
-        → line.Success segments n (a .places) (a .sums) (a′ .places) (a′ .sums)
+    pub prices-success : (aim : Objective) (n : ℕ) (a a′ : Areas) → roomFor (contractWith UnitPrices s us cs vs) a ≡ true
+        → line.Success aim segments n (a .places) (a .sums) (a′ .places) (a′ .sums)
         → a′ .order ≡ named ++ drop 8 (a .order) → a′ .work ≡ replicate (length (a .work)) 0
-        → Success (contractWith UnitPrices s us cs vs) n a a′
+        → SuccessFor aim (contractWith UnitPrices s us cs vs) n a a′
     unfolding orderIn
-    prices-success n a a′ h l o w =
+    prices-success aim n a a′ h l o w =
         let τ = together us items in
         let rest = drop 8 (a .order) in
         let same : itemsIn (length us) named ≡ items = rw (← append-nil named) (same-items []) in
-        let g : line.Success (inOrder s cs vs τ) n (a .places) (a .sums) (a′ .places) (a′ .sums) = rw (same-deal, same) at l in
-        success (contractWith UnitPrices s us cs vs) n named a a′
+        let g : line.Success aim (inOrder s cs vs τ) n (a .places) (a .sums) (a′ .places) (a′ .sums) = rw (same-deal, same) at l in
+        success aim (contractWith UnitPrices s us cs vs) n named a a′
         (record {
           eight = eight;
           long = room _ _ a h .order;
           order-is = o;
           names = names rest;
-          laid = rw (same-items rest) (line-laid (inOrder s cs vs τ) (order-rising s cs vs τ) (λ x y. refl) n _ _ _ _ g UnitPrices (λ b. b));
+          laid = rw (same-items rest) (line-laid UnitPrices (inOrder s cs vs τ) (order-rising s cs vs τ) (λ x y. refl) (λ xs b. b) aim n _ _ _ _ g);
           work-is = w;
         })

@@ -1,7 +1,7 @@
 -- What the answer of the reader says of the record, where both areas have room for 128 entries and the record is no ladder's. Assumes nothing.
 use mathlib.Core.Path.{_≡_, refl, sym, ap, _∙_, subst}
 use mathlib.Core.List.{List}
-use Prim.Native.Nat.{ℕ, _<_}
+use Prim.Native.Nat.{ℕ, _≤_, _<_}
 use native.Mathlib.Omega.{arith}
 use lib.ListN.{length}
 use Rattle.contract.specs.Res.{Res, refused, ok}
@@ -20,16 +20,16 @@ use Rattle.record.specs.Find.{OtherFound}
 use Rattle.record.proofs.FindLaws.{other-none}
 use Rattle.planning.specs.Stands.{Stands}
 
--- no refusal has number 0
-some-number : (e : Refusal) → 0 < numberOf e
-some-number Truncated = omega arith
-some-number Map = omega arith
-some-number Value = omega arith
-some-number Limit = omega arith
-some-number Range = omega arith
-some-number Falling = omega arith
-some-number Trailing = omega arith
-some-number Short = omega arith
+-- the refusals of a contract have the numbers 1 to 8
+pub number-range : (e : Refusal) → (0 < numberOf e) × (numberOf e ≤ 8)
+number-range Truncated = (omega arith, omega arith)
+number-range Map = (omega arith, omega arith)
+number-range Value = (omega arith, omega arith)
+number-range Limit = (omega arith, omega arith)
+number-range Range = (omega arith, omega arith)
+number-range Falling = (omega arith, omega arith)
+number-range Trailing = (omega arith, omega arith)
+number-range Short = (omega arith, omega arith)
 
 module _ (bytes costs values : List ℕ) (other : OtherFound bytes) (many-costs : length costs ≡ 128) (many-values : length values ≡ 128)
     (r : Outcome) (costs′ values′ : List ℕ) (h : Reads (reading bytes (length costs) (length values)) costs values r costs′ values′) where
@@ -47,7 +47,7 @@ module _ (bytes costs values : List ℕ) (other : OtherFound bytes) (many-costs 
       go (refused n) g = ap refused (sym (ap (λ (a : Answer). a .number) (g .answer)) ∙ ap replyOf q)
       go (ok k) g =
           let z : numberOf e ≡ 0 = sym (ap replyOf q) ∙ ap (λ (a : Answer). a .number) (g .answer) in
-          absurd (omega (arith, some-number e))
+          absurd (omega (arith, number-range e .0))
 
   no-refusal : r .reply ≡ Reply.Accepted → (n : ℕ) → parse bytes ≡ refused n → Reads (refused n) costs values r costs′ values′ → ⊥
   no-refusal q n e g =

@@ -14,6 +14,7 @@ use Rattle.exchange.specs.Forms.{table}
 use Rattle.exchange.specs.Named.{eachOnce}
 use Rattle.exchange.specs.PlanIn.{planIn}
 use Rattle.exchange.specs.Search.{mostSteps}
+use Rattle.exchange.specs.declared.Objective.{Objective}
 use Rattle.exchange.specs.declared.Sides.{Sides}
 use Rattle.exchange.proofs.PlanInLaws.{plan-in}
 use Rattle.exchange.proofs.TablePlan.RowUnits.{last-pos}
@@ -21,7 +22,7 @@ use Rattle.order.specs.Bytes.{allZero, namesEach}
 use Rattle.search.specs.Promise as search
 use Rattle.planning.specs.Deals.{contractWith, NoPlan}
 use Rattle.planning.specs.Areas.{Areas, roomFor}
-use Rattle.planning.specs.Promise.{Success}
+use Rattle.planning.specs.Promise.{Ours, Success}
 use Rattle.planning.proofs.LinePlan.{Laid}
 use Rattle.planning.proofs.Outcome.{room, success}
 
@@ -84,11 +85,11 @@ module _ (s : Sides) (us cs vs : List ℕ) (v : Valid (contractWith Table s us c
 
   -- the steps are laid out
   table-laid : (n : ℕ) (places sums places′ sums′ : List ℕ) → search.Success (table s us cs vs) n places sums places′ sums′
-      → Laid Table (table s us cs vs) n (planIn n places′ sums′) places sums places′ sums′
+      → Laid (Ours Table) (table s us cs vs) n (planIn n places′ sums′) places sums places′ sums′
   table-laid n places sums places′ sums′ h =
       let e : planIn n places′ sums′ ≡ h .plan =
       rw (h .steps) (plan-in (h .plan) places′ sums′ _ _ (h .places-are .entries-are) (h .sums-are .entries-are)) in
-      subst (λ xs. Laid Table (table s us cs vs) n xs places sums places′ sums′) (sym e)
+      subst (λ xs. Laid (Ours Table) (table s us cs vs) n xs places sums places′ sums′) (sym e)
       (record {
         is-ours =
             record {
@@ -107,7 +108,7 @@ module _ (s : Sides) (us cs vs : List ℕ) (v : Valid (contractWith Table s us c
       → Success (contractWith Table s us cs vs) n a a′
   unfolding namesEach allZero eachOnce
   table-success n a a′ e h o w =
-      success (contractWith Table s us cs vs) n (replicate 8 0) a a′
+      success Objective.Steps (contractWith Table s us cs vs) n (replicate 8 0) a a′
       (record {
         eight = refl;
         long = room _ _ a e .order;

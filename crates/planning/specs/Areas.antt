@@ -1,7 +1,7 @@
 -- The byte areas that are lent for a plan.
 use mathlib.Core.Path.{_≡_}
 use mathlib.Core.Bool.{Bool, true, _&&_}
-use mathlib.Core.List.{List}
+use mathlib.Core.List.{List, []}
 use Prim.Native.Nat.{ℕ, _+_, _*_}
 use lib.Dec.{leb}
 use lib.ListN.{length, replicate}
@@ -22,6 +22,10 @@ pub record Areas : Type 0 where
 -- the four areas as one
 abbrev pub areas : List ℕ → List ℕ → List ℕ → List ℕ → Areas
 areas places sums order work = record { places = places; sums = sums; order = order; work = work }
+
+-- the areas of a plan that needs no work area
+abbrev pub planAreas : List ℕ → List ℕ → List ℕ → Areas
+planAreas places sums order = areas places sums order []
 
 -- "for a table rows × (2U + 2) work bytes"
 abbrev pub workFor : Form → List ℕ → ℕ → ℕ

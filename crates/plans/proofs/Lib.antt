@@ -1,6 +1,2 @@
--- the room in the areas
-pub mod RoomLaws
--- the answers of the planners below
-pub mod AlongLaws
--- the promise, form by form
+-- from the answers of the planners below to the promise
 pub mod PlanLaws

@@ -2,14 +2,15 @@
 ghost use mathlib.Core.Path.{_≡_};
 ghost use Rattle.contract.specs.Contract.{contractOf};
 ghost use Rattle.contract.specs.declared.Form.the-variants.{Ladder};
+ghost use Rattle.exchange.specs.declared.Objective.{Objective};
 ghost use Rattle.record.specs.Find.{OtherFound};
 ghost use Rattle.planning.specs.Answer.{answerOf};
 ghost use Rattle.planning.specs.Areas.{areas};
-ghost use Rattle.planning.specs.Promise.{ahead, Plans};
+ghost use Rattle.planning.specs.Promise.{ahead, Plans, PlansOf};
 ghost use Rattle.planning.specs.Stands.{Stands};
-ghost use Rattle.plans.specs.Code.{PlansOf};
 use contract::Form;
 use contract::Header;
+use exchange::Objective;
 use planning::Planned;
 use record::Reply;
 
@@ -24,42 +25,25 @@ fn plan_contract(
     work: &mut [u8],
 ) -> Planned
     requires { ⌜ Stands header (now costs) (now values) × (header .form ≡ Ladder → ⊥) ⌝ }
-    ensures { λ r. ⌜ PlansOf (contractOf header (now (costs .entry)) (now (values .entry))) r (areas (now (places .entry)) (now (sums .entry)) (now (order .entry)) (now (work .entry))) (areas (now (places .exit)) (now (sums .exit)) (now (order .exit)) (now (work .exit))) ⌝ }
+    ensures { λ r. ⌜ PlansOf Objective.Steps (contractOf header (now (costs .entry)) (now (values .entry))) r (areas (now (places .entry)) (now (sums .entry)) (now (order .entry)) (now (work .entry))) (areas (now (places .exit)) (now (sums .exit)) (now (order .exit)) (now (work .exit))) ⌝ }
 {
     let form = header.form;
-    let sides = exchange::Sides {
-        price: header.price,
-        supplier: header.supplier,
-        buyer: header.buyer,
-    };
-    let units = header.units;
-    let n = header.count as usize;
     match form {
         // A ladder does not come here: it stays in its record.
         Form::Ladder => Planned::Impossible,
-        Form::UnitPrices => crate::along::plan_prices(
-            sides,
-            &units[0..n],
-            &costs[0..n],
-            &values[0..n],
-            places,
-            sums,
-            order,
-            work,
-        ),
-        Form::Table => {
-            let rows = grid::row_count(&units[0..n]);
-            crate::table::plan_table(
-                sides,
-                &units[0..n],
-                &costs[0..rows],
-                &values[0..rows],
+        Form::UnitPrices => {
+            let answer = along::plan_prices(
+                header,
+                costs,
+                values,
+                Objective::Steps,
                 places,
                 sums,
                 order,
-                work,
-            )
+            );
+            crate::settle(answer, work)
         }
+        Form::Table => crate::table::plan_table(header, costs, values, places, sums, order, work),
     }
 }
 

@@ -1,15 +1,33 @@
 // Plans the deal of a contract record.
+ghost use mathlib.Core.Path.{_≡_};
 ghost use Rattle.planning.specs.Answer.{answerOf};
 ghost use Rattle.planning.specs.Areas.{areas};
 ghost use Rattle.planning.specs.Promise.{ahead, Plans};
+ghost use Rattle.plans.specs.Code.{workAfter};
 
-mod along;
 mod contracts;
-mod room;
 mod table;
 
+use exchange::Objective;
 use planning::Planned;
 use record::Found;
+
+// Planning along an order has no use for the work area, and leaves it zero unless an area is too short.
+pub(crate) fn settle(answer: Planned, work: &mut [u8]) -> Planned
+    ensures { λ r. ⌜ (r ≡ answer) × (now (work .exit) ≡ workAfter answer (now (work .entry))) ⌝ }
+{
+    match answer {
+        Planned::Refused(e) => Planned::Refused(e),
+        Planned::Impossible => {
+            area::clear(work);
+            Planned::Impossible
+        }
+        Planned::Steps(n) => {
+            area::clear(work);
+            Planned::Steps(n)
+        }
+    }
+}
 
 // Plans the deal of a record. The places and paid totals of the steps go to two byte areas, two and four bytes an entry, and the order of
 // the items to the first eight order bytes.
@@ -24,7 +42,10 @@ pub fn plan(
 {
     match record::find(bytes) {
         Found::Refused(e) => Planned::Refused(e),
-        Found::Ladder(l) => along::plan_ladder(l, bytes, places, sums, order, work),
+        Found::Ladder(l) => {
+            let answer = along::plan_ladder(l, bytes, Objective::Steps, places, sums, order);
+            settle(answer, work)
+        }
         Found::Other => contracts::plan_other(bytes, places, sums, order, work),
     }
 }

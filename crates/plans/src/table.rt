@@ -1,14 +1,19 @@
 // Plans a table.
+ghost use mathlib.Core.Path.{_≡_};
+ghost use Rattle.contract.specs.Contract.{contractOf};
 ghost use Rattle.contract.specs.Valid.{Valid};
 ghost use Rattle.contract.specs.declared.Form.the-variants.{Table};
+ghost use Rattle.exchange.specs.declared.Objective.{Objective};
 ghost use Rattle.planning.specs.Deals.{contractWith};
 ghost use Rattle.planning.specs.Areas.{areas};
-ghost use Rattle.plans.specs.Code.{PlansOf};
+ghost use Rattle.planning.specs.Promise.{PlansOf};
+ghost use Rattle.planning.specs.Stands.{Stands};
+use contract::Header;
 use contract::Refusal;
 use planning::Planned;
 
-// Plans a table; no order to name.
-pub(crate) fn plan_table(
+// Plans the rows of a table; no order to name.
+fn plan_rows(
     sides: exchange::Sides,
     units: &[u16],
     costs: &[u32],
@@ -19,11 +24,13 @@ pub(crate) fn plan_table(
     work: &mut [u8],
 ) -> Planned
     requires { ⌜ Valid (contractWith Table sides (now units) (now costs) (now values)) ⌝ }
-    ensures { λ r. ⌜ PlansOf (contractWith Table sides (now (units .entry)) (now (costs .entry)) (now (values .entry))) r (areas (now (places .entry)) (now (sums .entry)) (now (order .entry)) (now (work .entry))) (areas (now (places .exit)) (now (sums .exit)) (now (order .exit)) (now (work .exit))) ⌝ }
+    ensures { λ r. ⌜ PlansOf Objective.Steps (contractWith Table sides (now (units .entry)) (now (costs .entry)) (now (values .entry))) r (areas (now (places .entry)) (now (sums .entry)) (now (order .entry)) (now (work .entry))) (areas (now (places .exit)) (now (sums .exit)) (now (order .exit)) (now (work .exit))) ⌝ }
 {
     let u = sizes::sum_units(units);
-    let rows = costs.len();
-    if !crate::room::has_room(u, rows * (2 * u + 2), places, sums, order, work) {
+    if !along::has_room(u, places, sums, order) {
+        return Planned::Refused(Refusal::Short);
+    }
+    if work.len() < costs.len() * (2 * u + 2) {
         return Planned::Refused(Refusal::Short);
     }
     match search::plan(sides, units, costs, values, places, sums, work) {
@@ -34,4 +41,37 @@ pub(crate) fn plan_table(
         exchange::Planned::Impossible => Planned::Impossible,
         exchange::Planned::Unfit => Planned::Impossible,
     }
+}
+
+// Plans a table whose costs and values stand at the front of two areas.
+pub(crate) fn plan_table(
+    header: Header,
+    costs: &[u32],
+    values: &[u32],
+    places: &mut [u8],
+    sums: &mut [u8],
+    order: &mut [u8],
+    work: &mut [u8],
+) -> Planned
+    requires { ⌜ Stands header (now costs) (now values) × (header .form ≡ Table) ⌝ }
+    ensures { λ r. ⌜ PlansOf Objective.Steps (contractOf header (now (costs .entry)) (now (values .entry))) r (areas (now (places .entry)) (now (sums .entry)) (now (order .entry)) (now (work .entry))) (areas (now (places .exit)) (now (sums .exit)) (now (order .exit)) (now (work .exit))) ⌝ }
+{
+    let sides = exchange::Sides {
+        price: header.price,
+        supplier: header.supplier,
+        buyer: header.buyer,
+    };
+    let units = header.units;
+    let n = header.count as usize;
+    let rows = grid::row_count(&units[0..n]);
+    plan_rows(
+        sides,
+        &units[0..n],
+        &costs[0..rows],
+        &values[0..rows],
+        places,
+        sums,
+        order,
+        work,
+    )
 }

@@ -15,8 +15,10 @@ use Rattle.contract.specs.declared.Refusal.the-variants.{Truncated, Map, Value,
 use Rattle.exchange.proofs.Int.{pos-sub}
 use Rattle.exchange.specs.Deal.{State}
 use Rattle.exchange.specs.PlanIn.{planIn}
+use Rattle.exchange.specs.declared.Objective.{Objective}
 use Rattle.planning.specs.Areas.{Areas}
-use Rattle.planning.specs.Promise.{Plans, Success}
+use Rattle.planning.specs.Promise.{PlansFor, SuccessFor}
+use Rattle.planning.proofs.Outcome.{claimed-steps}
 use Rattle.session.specs.declared.Side.the-variants.{Payment}
 use Rattle.yolkgorge.specs.Number.{codeOf, CountFits, orShort, sideOf}
 
@@ -37,10 +39,10 @@ filled-short w xs before after f =
     omega arith
 
 -- the steps stand in the area of the places
-success-fits : (k : Contract) (n : ℕ) (before after : Areas) → Success k n before after → length (before .places) < 2 ^ 64 → n < 2 ^ 63
-success-fits k n before after s h =
+success-fits : (aim : Objective) (k : Contract) (n : ℕ) (before after : Areas) → SuccessFor aim k n before after → length (before .places) < 2 ^ 64 → n < 2 ^ 63
+success-fits aim k n before after s h =
     let ours : List State = planIn n (after .places) (after .sums) in
-    let steps : n ≡ length ours = s .ours .steps in
+    let steps : n ≡ length ours = claimed-steps aim _ _ n ours (s .ours) in
     let same : length (map (λ t. t .place) ours) ≡ length ours = length-map ours (λ t. t .place) in
     let there : length (map (λ t. t .place) ours) ≤ length (entries 2 (after .places)) = filled-short 2 _ _ _ (s .places) in
     let half : length (entries 2 (after .places)) ≡ length (after .places) / 2 = entries-length 2 (after .places) in
@@ -48,11 +50,11 @@ success-fits k n before after s h =
     omega arith
 
 -- the step count of a plan has room in 64 bits with a sign
-pub count-fits : (ahead : Res Contract) (answer : Res ℕ) (before after : Areas) → Plans ahead answer before after
+pub count-fits : (aim : Objective) (ahead : Res Contract) (answer : Res ℕ) (before after : Areas) → PlansFor aim ahead answer before after
     → length (before .places) < 2 ^ 64 → CountFits answer
-count-fits (refused e) answer before after p h = refused-fits answer (p .0)
-count-fits (ok k) (refused e) before after p h = tt
-count-fits (ok k) (ok n) before after p h = success-fits k n before after p h
+count-fits aim (refused e) answer before after p h = refused-fits answer (p .0)
+count-fits aim (ok k) (refused e) before after p h = tt
+count-fits aim (ok k) (ok n) before after p h = success-fits aim k n before after p h
 
 -- the refusals of a record and of its areas stand where another area is too short
 pub short-stands : (A : Type 0) (e : Refusal) → numberOf e ≡ codeOf {A = A} (orShort (refused (numberOf e)))

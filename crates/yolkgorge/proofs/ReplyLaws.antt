@@ -7,15 +7,14 @@ use native.Mathlib.Omega.{arith}
 use borrow.Author.Tests.{le-leb, lt-leb, not-true, not-false}
 use lib.ListN.{length}
 use Rattle.contract.specs.Res.{Res, refused, ok, bind, test}
-use Rattle.contract.specs.Contract.{Contract, numberOf}
-use Rattle.contract.specs.declared.Refusal.{Refusal}
-use Rattle.contract.specs.declared.Refusal.the-variants.{Truncated, Map, Value, Limit, Range, Falling, Trailing, Short}
+use Rattle.contract.specs.Contract.{Contract}
 use Rattle.exchange.specs.Deal.{State}
 use Rattle.exchange.specs.PlanIn.{planIn}
 use Rattle.planning.specs.Answer.{checkedOf}
 use Rattle.planning.specs.Check.{holdsCount}
 use Rattle.planning.specs.declared.Checked.{Checked}
 use Rattle.planning.specs.declared.Checked.the-variants.{Refused, Unsafe, Accepted}
+use Rattle.planning.proofs.ReadLaws.{number-range}
 use Rattle.session.specs.Session.{finishedBy, reportIn, replied, replyTo, sessionAfter, Reports}
 use Rattle.session.specs.Opening.{Opens}
 use Rattle.session.specs.declared.Opened.{Opened}
@@ -36,18 +35,8 @@ abbrev Counted : Res (Unit {0}) → Type 0
 Counted (refused e) = 0 < e
 Counted (ok u) = Unit {0}
 
-refusal-counts : (e : Refusal) → 0 < numberOf e
-refusal-counts Truncated = omega arith
-refusal-counts Map = omega arith
-refusal-counts Value = omega arith
-refusal-counts Limit = omega arith
-refusal-counts Range = omega arith
-refusal-counts Falling = omega arith
-refusal-counts Trailing = omega arith
-refusal-counts Short = omega arith
-
 check-counts : (c : Checked) → Counted (checkedOf c)
-check-counts (Refused e) = refusal-counts e
+check-counts (Refused e) = number-range e .0
 check-counts Unsafe = omega arith
 check-counts Accepted = tt
 

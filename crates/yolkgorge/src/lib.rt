@@ -1,10 +1,11 @@
 // The planner for C programs: numbers and byte areas, each entry one call of the planner or of a session.
 ghost use mathlib.Core.Path.{_≡_};
 ghost use Rattle.exchange.specs.PlanIn.{planIn};
-ghost use Rattle.planning.specs.Areas.{areas};
+ghost use Rattle.exchange.specs.declared.Objective.{Objective};
+ghost use Rattle.planning.specs.Areas.{areas, planAreas};
 ghost use Rattle.planning.specs.Check.{aheadOfCheck};
-ghost use Rattle.planning.specs.Promise.{ahead};
-ghost use Rattle.yolkgorge.specs.Entries.{PlansNumber, ChecksNumber};
+ghost use Rattle.planning.specs.Promise.{ahead, aheadAlong};
+ghost use Rattle.yolkgorge.specs.Entries.{PlansNumber, PlansNumberFor, ChecksNumber};
 ghost use Rattle.yolkgorge.specs.Limits.{boundsFor, LeavesBounds};
 ghost use Rattle.yolkgorge.specs.Sessions.{Leaves, OpensNumber, reportFrom, finishedIn};
 
@@ -26,6 +27,48 @@ pub extern "C" fn yolkgorge_plan(
     ensures { λ r. ⌜ PlansNumber (ahead (now (bytes .entry)) (areas (now (places .entry)) (now (sums .entry)) (now (order .entry)) (now (work .entry)))) r (areas (now (places .entry)) (now (sums .entry)) (now (order .entry)) (now (work .entry))) (areas (now (places .exit)) (now (sums .exit)) (now (order .exit)) (now (work .exit))) ⌝ }
 {
     let answer = planner::plan(bytes, places, sums, order, work);
+    numbers::steps_or_refusal(answer)
+}
+
+// Plans a ladder or unit prices with fewest payments: the step count, or minus the number of the refusal.
+#[no_mangle]
+pub extern "C" fn yolkgorge_plan_fewest_payments(
+    bytes: &[u8],
+    places: &mut [u8],
+    sums: &mut [u8],
+    order: &mut [u8],
+) -> i64
+    ensures { λ r. ⌜ PlansNumberFor Objective.Payments (aheadAlong (now (bytes .entry)) (planAreas (now (places .entry)) (now (sums .entry)) (now (order .entry)))) r (planAreas (now (places .entry)) (now (sums .entry)) (now (order .entry))) (planAreas (now (places .exit)) (now (sums .exit)) (now (order .exit))) ⌝ }
+{
+    let answer = planner::plan_fewest_payments(bytes, places, sums, order);
+    numbers::steps_or_refusal(answer)
+}
+
+// Plans a ladder or unit prices with fewest deliveries: the step count, or minus the number of the refusal.
+#[no_mangle]
+pub extern "C" fn yolkgorge_plan_fewest_deliveries(
+    bytes: &[u8],
+    places: &mut [u8],
+    sums: &mut [u8],
+    order: &mut [u8],
+) -> i64
+    ensures { λ r. ⌜ PlansNumberFor Objective.Deliveries (aheadAlong (now (bytes .entry)) (planAreas (now (places .entry)) (now (sums .entry)) (now (order .entry)))) r (planAreas (now (places .entry)) (now (sums .entry)) (now (order .entry))) (planAreas (now (places .exit)) (now (sums .exit)) (now (order .exit))) ⌝ }
+{
+    let answer = planner::plan_fewest_deliveries(bytes, places, sums, order);
+    numbers::steps_or_refusal(answer)
+}
+
+// Plans a ladder or unit prices with fewest moves: the step count, or minus the number of the refusal.
+#[no_mangle]
+pub extern "C" fn yolkgorge_plan_fewest_moves(
+    bytes: &[u8],
+    places: &mut [u8],
+    sums: &mut [u8],
+    order: &mut [u8],
+) -> i64
+    ensures { λ r. ⌜ PlansNumberFor Objective.Moves (aheadAlong (now (bytes .entry)) (planAreas (now (places .entry)) (now (sums .entry)) (now (order .entry)))) r (planAreas (now (places .entry)) (now (sums .entry)) (now (order .entry))) (planAreas (now (places .exit)) (now (sums .exit)) (now (order .exit))) ⌝ }
+{
+    let answer = planner::plan_fewest_moves(bytes, places, sums, order);
     numbers::steps_or_refusal(answer)
 }
 

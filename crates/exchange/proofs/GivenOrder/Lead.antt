@@ -21,10 +21,10 @@ pub record Leads (R : State → State → Type 0) (G : State → Type 0) (next :
 pub behind-refl : (s : State) → Behind s s
 behind-refl s = record { place = le-refl _; paid = le-refl _ }
 
-behind-trans : {s t u : State} → Behind s t → Behind t u → Behind s u
+pub behind-trans : {s t u : State} → Behind s t → Behind t u → Behind s u
 behind-trans b c = record { place = le-trans (b .place) (c .place); paid = le-trans (b .paid) (c .paid) }
 
-behind-eq : {s t : State} → Behind s t → Behind t s → s ≡ t
+pub behind-eq : {s t : State} → Behind s t → Behind t s → s ≡ t
 behind-eq b c = state-eq (omega arith) (omega arith)
 
 after-all : (s : State) (xs : List State) → after s xs (length xs) ≡ ends s xs
@@ -36,7 +36,7 @@ module _ {R : State → State → Type 0} {G : State → Type 0} {next : State �
   run-keeps u g zero = g
   run-keeps u g (suc k) = run-keeps (next u) (l .keeps u g) k
 
-  run-onward : (u : State) → G u → (k : ℕ) → Behind u (run next u k)
+  pub run-onward : (u : State) → G u → (k : ℕ) → Behind u (run next u k)
   run-onward u g zero = behind-refl u
   run-onward u g (suc k) = behind-trans (l .onward u g) (run-onward (next u) (l .keeps u g) k)
 

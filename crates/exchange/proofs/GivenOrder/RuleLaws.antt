@@ -2,6 +2,7 @@
 use mathlib.Core.Path.{_≡_, refl, ap}
 use mathlib.Core.List.{List, _∷_}
 use Prim.Native.Nat.{ℕ, zero, suc}
+use lib.ListN.{length}
 use Rattle.exchange.specs.Deal.{Deal, State, ends, end}
 use Rattle.exchange.specs.Rule.{reach, rule, ruled}
 use Rattle.exchange.specs.Work.{workOf}
@@ -25,6 +26,11 @@ module _ (d : Deal) where
   unfolding ruled
   ruled-path s zero = refl
   ruled-path s (suc n) = rw (rule-greedy s) (ap (λ (xs : List State). greedy (workOf d) s ∷ xs) (ruled-path (greedy (workOf d) s) n))
+
+  pub ruled-length : (s : State) (n : ℕ) → length (ruled d s n) ≡ n
+  unfolding ruled
+  ruled-length s zero = refl
+  ruled-length s (suc n) = ap suc (ruled-length (rule d s) n)
 
   pub ruled-run : (s : State) (n : ℕ) → ends s (ruled d s n) ≡ run (greedy (workOf d)) s n
   ruled-run s n = rw (ruled-path s n) (ends-path (greedy (workOf d)) s n)

@@ -1,5 +1,6 @@
 -- `yolkgorge::yolkgorge_plan` meets its contract, by the promise of the planner. Assumes nothing.
 use denote.Ref.{now}
+use Rattle.exchange.specs.declared.Objective.{Objective}
 use Rattle.planning.specs.Answer.{answerOf}
 use Rattle.planning.specs.Areas.{Areas, areas}
 use Rattle.planning.specs.Promise.{ahead}
@@ -15,7 +16,7 @@ steps-or-refusal-requires : tie.Need-steps-or-refusal-requires
 steps-or-refusal-requires c κs =
     let x = c .before .before .before .before .before .before .before .before .before .before .before .before .before .before .before .before .before .before .args in
     let before : Areas = areas (now (x .places)) (now (x .sums)) (now (x .order)) (now (x .work)) in
-    count-fits (ahead (now (x .bytes)) before) (answerOf (c .before .before .before .before .before .before .before .before .plan .result)) before _ (c .before .before .before .before .before .before .before .before .plan .ensures) (c .before .before .before .before .before .before .before .before .before .before .before .before .before .before .before .before .before .before .good .1 .0 .0)
+    count-fits Objective.Steps (ahead (now (x .bytes)) before) (answerOf (c .before .before .before .before .before .before .before .before .plan .result)) before _ (c .before .before .before .before .before .before .before .before .plan .ensures) (c .before .before .before .before .before .before .before .before .before .before .before .before .before .before .before .before .before .before .good .1 .0 .0)
 
 same-length : tie.Need-same-length
 same-length c = search needs

@@ -4,8 +4,6 @@ use Rattle.checks.proofs.CheckLaws.{few-places, few-sums, both-held}
 use borrow.Author.Needs.{needs}
 use Rattle.checks.proofs.brought.holds_plan.Statement.{statement}
 use Rattle.checks.proofs.brought.holds_plan.Tie as tie
-use Rattle.area.proofs.count_u16.Reads as count-u16-reads
-use Rattle.area.proofs.count_u32.Reads as count-u32-reads
 
 count-u16-requires : tie.Need-count-u16-requires
 count-u16-requires c κs = search needs

@@ -1,0 +1,2 @@
+-- what the private functions ask and give
+pub mod Code

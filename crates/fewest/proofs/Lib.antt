@@ -1,0 +1,2 @@
+-- the promise by the form of the contract
+pub mod PlanLaws

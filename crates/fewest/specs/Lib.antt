@@ -1,0 +1,2 @@
+-- what the private functions give
+pub mod Code

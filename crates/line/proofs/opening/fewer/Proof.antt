@@ -1,0 +1,35 @@
+-- `line::opening::fewer` meets its contract. Assumes nothing.
+use native.Mathlib.Omega.{arith}
+use Rattle.line.proofs.OpeningLaws.{leads-own, leads-payment, fewer-paying, fewer-giving}
+use borrow.Author.Needs.{needs}
+use Rattle.line.proofs.opening.fewer.Statement.{statement}
+use Rattle.line.proofs.opening.fewer.Tie as tie
+
+payment-only-requires : tie.Need-payment-only-requires
+payment-only-requires c κs = search needs
+
+delivery-only-requires : tie.Need-delivery-only-requires
+delivery-only-requires c κs = search needs
+
+steps-requires : tie.Need-steps-requires
+steps-requires c κs = (c .before .before .before .before .before .pre .0, c .before .before .before .before .before .pre .1, leads-own (c .before .before .before .before .before .args .sides) (c .before .before .before .before .before .args .units .now) (c .before .before .before .before .before .args .costs .now) (c .before .before .before .before .before .args .values .now) (leads-payment (c .before .before .before .before .before .args .sides) (c .before .before .before .before .before .args .units .now) (c .before .before .before .before .before .args .costs .now) (c .before .before .before .before .before .args .values .now) (c .before .before .before .before .before .args .t) (c .before .before .before .before .before .pre .0) (c .before .before .before .before .before .pre .1) _ (c .before .payment-only .ensures)))
+
+steps-requires-2 : tie.Need-steps-requires-2
+steps-requires-2 c κs = search needs
+
+returns : tie.Need-returns
+returns c = fewer-paying (c .before .before .before .before .before .before .before .before .args .sides) (c .before .before .before .before .before .before .before .before .args .units .now) (c .before .before .before .before .before .before .before .before .args .costs .now) (c .before .before .before .before .before .before .before .before .args .values .now) (c .before .before .before .before .before .before .before .before .args .t) (c .before .before .before .before .before .before .before .before .pre .0) (c .before .before .before .before .before .before .before .before .pre .1) _ _ _ _ (leads-payment (c .before .before .before .before .before .before .before .before .args .sides) (c .before .before .before .before .before .before .before .before .args .units .now) (c .before .before .before .before .before .before .before .before .args .costs .now) (c .before .before .before .before .before .before .before .before .args .values .now) (c .before .before .before .before .before .before .before .before .args .t) (c .before .before .before .before .before .before .before .before .pre .0) (c .before .before .before .before .before .before .before .before .pre .1) _ (c .before .before .before .before .payment-only .ensures)) (c .before .before .before .delivery-only .ensures) (c .before .before .steps .ensures) (c .before .steps2 .ensures) (omega (arith, c .if1 .taken))
+
+returns-2 : tie.Need-returns-2
+returns-2 c = fewer-giving (c .before .before .before .before .before .before .before .before .args .sides) (c .before .before .before .before .before .before .before .before .args .units .now) (c .before .before .before .before .before .before .before .before .args .costs .now) (c .before .before .before .before .before .before .before .before .args .values .now) (c .before .before .before .before .before .before .before .before .args .t) (c .before .before .before .before .before .before .before .before .pre .0) (c .before .before .before .before .before .before .before .before .pre .1) _ _ _ _ (leads-payment (c .before .before .before .before .before .before .before .before .args .sides) (c .before .before .before .before .before .before .before .before .args .units .now) (c .before .before .before .before .before .before .before .before .args .costs .now) (c .before .before .before .before .before .before .before .before .args .values .now) (c .before .before .before .before .before .before .before .before .args .t) (c .before .before .before .before .before .before .before .before .pre .0) (c .before .before .before .before .before .before .before .before .pre .1) _ (c .before .before .before .before .payment-only .ensures)) (c .before .before .before .delivery-only .ensures) (c .before .before .steps .ensures) (c .before .steps2 .ensures) (omega (arith, c .if1 .left))
+
+pub fewer-spec : {M : Type 1} → statement M
+fewer-spec =
+    tie.close
+    (tie.spec
+    payment-only-requires
+    delivery-only-requires
+    steps-requires
+    steps-requires-2
+    returns
+    returns-2)
