@@ -8,9 +8,11 @@ use native.Mathlib.Omega.{arith}
 use lib.ListN.{length, replicate, take, drop}
 use Rattle.area.proofs.Laws.{column-length}
 use Rattle.contract.specs.Res.{refused, ok}
-use Rattle.contract.specs.Contract.{Contract}
+use Rattle.contract.specs.Contract.{Contract, numberOf}
+use Rattle.contract.specs.Parse.{parse}
 use Rattle.contract.specs.Valid.{Valid}
 use Rattle.contract.specs.declared.Form.the-variants.{UnitPrices}
+use Rattle.contract.specs.declared.Refusal.{Refusal}
 use Rattle.contract.specs.declared.Refusal.the-variants.{Short}
 use Rattle.exchange.specs.Deal.{Deal}
 use Rattle.exchange.specs.Choice.{choose}
@@ -38,14 +40,32 @@ use Rattle.planning.proofs.LadderPlan.{ladder-none, ladder-success}
 use Rattle.planning.proofs.NamedOrder as prices
 use Rattle.planning.proofs.Outcome.{room, short-said, room-said}
 use Rattle.planning.proofs.PricesPlan.{found-items, found-none, chosen-is, prices-none, prices-suit, prices-blocked, prices-success}
-use Rattle.along.specs.Code.{CanPlan, AlongAnswers, AlongSays}
+use Rattle.planning.proofs.Records.{refused-plans, accepted-plans}
+use Rattle.along.specs.Code.{CanPlan, AlongAnswers, AlongSays, PlansFound}
 use Rattle.along.proofs.AnswerLaws.{line-steps, line-none, line-unfit, none-written}
+
+-- ---- a record
+
+-- a record that is refused
+pub refused-found : (aim : Objective) (bytes : List ℕ) (a : Areas) (e : Refusal) → parse bytes ≡ refused (numberOf e) → PlansFound aim bytes (Planned.Refused e) a a
+refused-found aim bytes a e q = record { plans = refused-plans aim bytes a (numberOf e) q }
+
+-- a record that says a contract
+pub accepted-found : (aim : Objective) (bytes : List ℕ) (k : Contract) (r : Planned) (a a′ : Areas) → parse bytes ≡ ok k → PlansOf aim k r a a′
+    → PlansFound aim bytes r a a′
+accepted-found aim bytes k r a a′ e h = record { plans = accepted-plans aim bytes k r a a′ e h }
+
+-- ---- room
 
 -- an area is too short
 pub too-short : (aim : Objective) (k : Contract) (a : Areas) → roomFor k a ≡ false → PlansOf aim k (Planned.Refused Short) a a
 too-short aim k a e = record { plans = short-said aim k a e }
 
 -- ---- a ladder
+
+pub ladder-short : (aim : Objective) (s : List ℕ) (l : Ladder) → LadderFound s l → (a : Areas) → roomFor (ladderIn s l) a ≡ false
+    → PlansFound aim s (Planned.Refused Short) a a
+ladder-short aim s l f a e = accepted-found aim s (ladderIn s l) _ a a (f .says) (too-short aim (ladderIn s l) a e)
 
 -- the room that a ladder needs, by the number of the code
 pub ladder-room : (s : List ℕ) (l : Ladder) (a : Areas) (b : Bool) → b ≡ hasRoom (l .count) 0 a → b ≡ roomFor (ladderIn s l) a
@@ -65,15 +85,17 @@ module _ (s : List ℕ) (l : Ladder) (f : LadderFound s l) (x : ladder.Ladder) (
     said-along = rw ex at g
 
     pub ladder-plans : (n : ℕ) → r ≡ exchange.Planned.Steps n → (o′ : List ℕ) → o′ ≡ replicate 8 0 ++ drop 8 o
-        → PlansOf aim (ladderIn s l) (Planned.Steps n) (planAreas p q o) (planAreas p′ q′ o′)
+        → PlansFound aim s (Planned.Steps n) (planAreas p q o) (planAreas p′ q′ o′)
     ladder-plans n e o′ eo =
         let laid = line-steps aim _ _ r p q p′ q′ said-along n e in
-        record { plans = room-said aim (ladderIn s l) (ok n) _ _ h (ladder-success _ _ _ aim n (planAreas p q o) (planAreas p′ q′ o′) h laid eo refl) }
+        accepted-found aim s (ladderIn s l) _ _ _ (f .says)
+        (record { plans = room-said aim (ladderIn s l) (ok n) _ _ h (ladder-success _ _ _ aim n (planAreas p q o) (planAreas p′ q′ o′) h laid eo refl) })
 
-    pub ladder-impossible : r ≡ exchange.Planned.Impossible → PlansOf aim (ladderIn s l) Planned.Impossible (planAreas p q o) (planAreas p′ q′ o)
+    pub ladder-impossible : r ≡ exchange.Planned.Impossible → PlansFound aim s Planned.Impossible (planAreas p q o) (planAreas p′ q′ o)
     ladder-impossible e =
         let (no-plan, (ep, eq)) = line-none aim _ _ r p q p′ q′ said-along e in
-        record { plans = room-said aim (ladderIn s l) (refused 9) _ _ h (refl, (ladder-none _ _ _ no-plan, none-written p q o p′ q′ ep eq)) }
+        accepted-found aim s (ladderIn s l) _ _ _ (f .says)
+        (record { plans = room-said aim (ladderIn s l) (refused 9) _ _ h (refl, (ladder-none _ _ _ no-plan, none-written p q o p′ q′ ep eq)) })
 
     pub ladder-unfit : r ≡ exchange.Planned.Unfit → {X : Type 0} → X
     ladder-unfit e = line-unfit aim _ _ r p q p′ q′ said-along e refl

@@ -7,7 +7,9 @@ use lib.ListN.{length, drop}
 use Rattle.exchange.specs.Deal.{Deal, State, Plan}
 use Rattle.exchange.specs.declared.Objective.{Objective}
 use Rattle.line.specs.Promise as line
+use Rattle.planning.specs.Answer.{answerOf}
 use Rattle.planning.specs.Areas.{Areas}
+use Rattle.planning.specs.Promise.{ahead, PlansFor}
 use Rattle.planning.specs.declared.Planned.{Planned}
 
 -- segments that fit, and areas with room for a plan along them
@@ -25,3 +27,7 @@ AlongAnswers aim d named (Planned.Steps n) a a′ =
 -- what planning along segments gives
 pub record AlongSays (aim : Objective) (d : Deal) (named : List ℕ) (r : Planned) (a a′ : Areas) : Type 0 where
   pub says : AlongAnswers aim d named r a a′
+
+-- the promise for a record whose form was found
+pub record PlansFound (aim : Objective) (bytes : List ℕ) (r : Planned) (before after : Areas) : Type 0 where
+  pub plans : PlansFor aim (ahead bytes before) (answerOf r) before after

@@ -1,21 +1,22 @@
-// Plans a contract along one order of its units, for an objective: a ladder, or the chosen order of unit prices. No work area is needed.
+// Plans a record along one order of its units, for an objective: a ladder, or the chosen order of unit prices. No work area is needed.
 ghost use mathlib.Core.Path.{_≡_};
 ghost use Prim.Native.Nat.{_<_};
 ghost use Rattle.contract.specs.Contract.{contractOf};
 ghost use Rattle.contract.specs.Valid.{Valid};
 ghost use Rattle.contract.specs.declared.Form.the-variants.{UnitPrices};
-ghost use Rattle.record.specs.Find.{LadderFound, ladderIn};
+ghost use Rattle.record.specs.Find.{LadderFound, HeadFound};
 ghost use Rattle.line.specs.Segments.{dealAlong};
 ghost use Rattle.planning.specs.Areas.{hasRoom, planAreas};
 ghost use Rattle.planning.specs.Deals.{contractWith};
 ghost use Rattle.planning.specs.Promise.{PlansOf};
 ghost use Rattle.planning.specs.Stands.{Stands};
-ghost use Rattle.along.specs.Code.{CanPlan, AlongSays};
+ghost use Rattle.along.specs.Code.{CanPlan, AlongSays, PlansFound};
 use contract::Header;
 use contract::Refusal;
 use exchange::Objective;
 use planning::Planned;
 use record::Ladder;
+use record::Reply;
 
 // Whether the areas have room for a plan of that many units.
 pub fn has_room(units: usize, places: &[u8], sums: &[u8], order: &[u8]) -> bool
@@ -42,7 +43,7 @@ pub fn plan_ladder(
     order: &mut [u8],
 ) -> Planned
     requires { ⌜ LadderFound (now bytes) l ⌝ }
-    ensures { λ r. ⌜ PlansOf aim (ladderIn (now (bytes .entry)) l) r (planAreas (now (places .entry)) (now (sums .entry)) (now (order .entry))) (planAreas (now (places .exit)) (now (sums .exit)) (now (order .exit))) ⌝ }
+    ensures { λ r. ⌜ PlansFound aim (now (bytes .entry)) r (planAreas (now (places .entry)) (now (sums .entry)) (now (order .entry))) (planAreas (now (places .exit)) (now (sums .exit)) (now (order .exit))) ⌝ }
 {
     if !has_room(l.count, places, sums, order) {
         return Planned::Refused(Refusal::Short);
@@ -122,7 +123,7 @@ fn plan_items(
 }
 
 // Plans unit prices whose costs and values stand at the front of two areas.
-pub fn plan_prices(
+fn plan_contract(
     header: Header,
     costs: &[u32],
     values: &[u32],
@@ -151,4 +152,25 @@ pub fn plan_prices(
         sums,
         order,
     )
+}
+
+// Plans unit prices that were found in their record: two areas of eight have room for their costs and values.
+pub fn plan_prices(
+    bytes: &[u8],
+    aim: Objective,
+    places: &mut [u8],
+    sums: &mut [u8],
+    order: &mut [u8],
+) -> Planned
+    requires { ⌜ HeadFound UnitPrices (now bytes) ⌝ }
+    ensures { λ r. ⌜ PlansFound aim (now (bytes .entry)) r (planAreas (now (places .entry)) (now (sums .entry)) (now (order .entry))) (planAreas (now (places .exit)) (now (sums .exit)) (now (order .exit))) ⌝ }
+{
+    let mut costs = [0u32; 8];
+    let mut values = [0u32; 8];
+    let read = record::read(bytes, &mut costs, &mut values);
+    let reply = read.reply;
+    match reply {
+        Reply::Refused(e) => Planned::Refused(e),
+        Reply::Accepted => plan_contract(read.header, &costs, &values, aim, places, sums, order),
+    }
 }

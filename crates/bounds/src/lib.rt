@@ -20,7 +20,8 @@ pub fn bounds(bytes: &[u8], place: usize, order: &[u8]) -> Bounded
     match record::find(bytes) {
         Found::Refused(e) => Bounded::Refused(e),
         Found::Ladder(l) => places::bounds_ladder(l, bytes, place, order),
-        Found::Other => by_form::bounds_other(bytes, place, order),
+        Found::UnitPrices => by_form::bounds_other(bytes, place, order),
+        Found::Table => by_form::bounds_other(bytes, place, order),
     }
 }
 

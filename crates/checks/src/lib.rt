@@ -17,6 +17,7 @@ pub fn check(bytes: &[u8], count: usize, places: &[u8], sums: &[u8], order: &[u8
     match record::find(bytes) {
         Found::Refused(e) => Checked::Refused(e),
         Found::Ladder(l) => brought::check_ladder(l, bytes, count, places, sums, order),
-        Found::Other => by_form::check_other(bytes, count, places, sums, order),
+        Found::UnitPrices => by_form::check_other(bytes, count, places, sums, order),
+        Found::Table => by_form::check_other(bytes, count, places, sums, order),
     }
 }

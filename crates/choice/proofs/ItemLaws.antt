@@ -2,16 +2,17 @@
 use mathlib.Core.Path.{_≡_, refl}
 use mathlib.Core.Bool.{Bool, true, false, not, _&&_, and-true, and-comm}
 use mathlib.Core.List.{List, [], _∷_, _++_}
-use Prim.Native.Nat.{ℕ, zero, suc, _+_, _*_, _^_, _<_}
+use Prim.Native.Nat.{ℕ, zero, suc, _+_, _*_, _^_, _≤_, _<_}
 use native.Mathlib.Nat.{add-zero, lt-of-le-of-lt, le-of-lt, mul-le-mul-left, mul-lt-mul-of-pos-right}
 use native.Mathlib.Numerals.{add-one}
 use native.Mathlib.Omega.{arith}
 use lib.Dec.{leb, ltb, eqb, lit<}
 use lib.ListN.{getD}
-use borrow.Author.Tests.{ltb-true, ltb-false, le-leb, lt-leb}
+use borrow.Author.Tests.{leb-true, leb-false, ltb-true, ltb-false, le-leb, lt-leb, lt-ltb, le-ltb}
+use mir.Val.{boolByte}
 use Rattle.exchange.specs.Forms.{occurs}
 use Rattle.exchange.specs.Choice.{End, at, sumOver, allItems, fits, better, best}
-use Rattle.choice.specs.Ends.{leftOf}
+use Rattle.choice.specs.Ends.{placedFrom, leftOf}
 
 -- a number of units and an amount
 pub product-below : {k x : ℕ} → k < 2 ^ 16 → x < 2 ^ 32 → k * x < 2 ^ 48
@@ -23,6 +24,20 @@ ltb-not a b = go (ltb a b) refl
     go : (t : Bool) → ltb a b ≡ t → t ≡ not (leb b a)
     go true e = rw (lt-leb b a (ltb-true a b e))
     go false e = rw (le-leb b a (ltb-false a b e))
+
+-- the byte of a flag
+pub flag-few : (b : Bool) → boolByte b ≤ 1
+flag-few true = omega arith
+flag-few false = omega arith
+
+-- the front's test is at most, the back's less
+pub placed-by : (front : Bool) (need give : ℕ) → ltb need (give + boolByte front) ≡ placedFrom front need give
+placed-by true need give = go (leb need give) refl
+  where
+    go : (t : Bool) → leb need give ≡ t → ltb need (give + 1) ≡ t
+    go true e = lt-ltb need (give + 1) (omega (arith, leb-true need give e))
+    go false e = le-ltb need (give + 1) (omega (arith, leb-false need give e))
+placed-by false need give = rw (add-zero give) (ltb-not need give)
 
 pub total-next : (units : List ℕ) (w : ℕ → ℕ) (j : ℕ) → sumOver units w (allItems (j + 1)) ≡ sumOver units w (allItems j) + at units j * w j
 unfolding sumOver allItems

@@ -49,14 +49,12 @@ fn total(units: &[u16], amounts: &[u32]) -> u64
     sum
 }
 
-// Whether an item is placed from this end, by what a unit needs and gives there.
+// Whether an item is placed from this end, by what a unit needs and gives there: from the front also where both are the same.
 fn belongs(front: bool, need: u64, give: u64) -> bool
+    requires { ⌜ give < 2 ^ 32 ⌝ }
     ensures { λ r. ⌜ r ≡ placedFrom front need give ⌝ }
 {
-    if front {
-        return need <= give;
-    }
-    need < give
+    need < give + front as u64
 }
 
 // Whether item j may be placed next and is to be taken rather than i. The slack there is added - taken; it may be negative.

@@ -1,9 +1,10 @@
--- A valid contract is found again from its header and from areas that begin with its costs and values; areas of 128 have room for every one but a ladder's.
+-- A valid contract is found again from its header and from areas that begin with its costs and values; areas of so many entries as its form has at most have room for it.
 -- Assumes nothing.
 use mathlib.Core.Path.{_≡_, refl, sym, ap, _∙_}
 use mathlib.Core.Bool.{and-eq-true-iff}
 use mathlib.Core.List.{List, [], _++_}
 use Prim.Native.Nat.{ℕ, _≤_}
+use native.Mathlib.Nat.{le-trans}
 use native.Mathlib.Omega.{arith}
 use lib.ListN.{length, take}
 use lib.Seq.{take-append-seam}
@@ -50,31 +51,38 @@ module _ (p a b : ℕ) (us cs vs xs ys : List ℕ) where
 pub from-header : (k : Contract) (xs ys : List ℕ) → Valid k → contractOf (headerOf k) (k .costs ++ xs) (k .values ++ ys) ≡ k
 from-header k xs ys v = back (k .price) (k .supplier) (k .buyer) (k .units) (k .costs) (k .values) xs ys (k .form) v
 
--- no contract but a ladder's has more than 128 costs or values
-few-entries : (k : Contract) → Valid k → (k .form ≡ Ladder → ⊥) → (length (k .costs) ≤ 128) × (length (k .values) ≤ 128)
+-- how many costs, or values, a contract of each form has at most
+abbrev pub mostEntries : Form → ℕ
+mostEntries Ladder = 1000
+mostEntries UnitPrices = 8
+mostEntries Table = 128
+
+few-entries : (k : Contract) → Valid k → (length (k .costs) ≤ mostEntries (k .form)) × (length (k .values) ≤ mostEntries (k .form))
 unfolding inRange
-few-entries k v other = go (k .price) (k .supplier) (k .buyer) (k .units) (k .costs) (k .values) (k .form) v other
+few-entries k v = go (k .price) (k .supplier) (k .buyer) (k .units) (k .costs) (k .values) (k .form) v
   where
-    go : (p a b : ℕ) (us cs vs : List ℕ) (f : Form) → Valid (make p a b us cs vs [] [] f) → (f ≡ Ladder → ⊥)
-        → (length cs ≤ 128) × (length vs ≤ 128)
-    go p a b us cs vs Ladder v other = absurd (other refl)
-    go p a b us cs vs UnitPrices v other =
+    go : (p a b : ℕ) (us cs vs : List ℕ) (f : Form) → Valid (make p a b us cs vs [] [] f) → (length cs ≤ mostEntries f) × (length vs ≤ mostEntries f)
+    go p a b us cs vs Ladder v =
+        let (_, high) = simp and-eq-true-iff at (v .range) in
+        let h : length cs ≤ 1000 = leb-true _ _ high in
+        (h, omega (arith, v .values-counted))
+    go p a b us cs vs UnitPrices v =
         let (((_, high), _), _) = simp and-eq-true-iff at (v .range) in
         let h : length us ≤ 8 = leb-true _ _ high in
         (omega (arith, v .costs-counted), omega (arith, v .values-counted))
-    go p a b us cs vs Table v other =
+    go p a b us cs vs Table v =
         let (_, high) = simp and-eq-true-iff at (v .range) in
         let h : rowsOf us ≤ 128 = leb-true _ _ high in
         let n : rowsOf (take (length us) us) ≡ rowsOf us = ap rowsOf (v .units-counted) in
         (omega (arith, v .costs-counted), omega (arith, v .values-counted))
 
--- so areas of 128 are never too short for a record that is no ladder's
-pub reading-all : (s : List ℕ) → ((k : Contract) → parse s ≡ ok k → k .form ≡ Ladder → ⊥) → reading s 128 128 ≡ parse s
+-- so areas with room for them are never too short
+pub reading-all : (s : List ℕ) (n : ℕ) → ((k : Contract) → parse s ≡ ok k → mostEntries (k .form) ≤ n) → reading s n n ≡ parse s
 unfolding reading sized
-reading-all s other = go (parse s) refl
+reading-all s n room = go (parse s) refl
   where
-    go : (r : Res Contract) → parse s ≡ r → sized r 128 128 ≡ r
-    go (refused n) e = refl
+    go : (r : Res Contract) → parse s ≡ r → sized r n n ≡ r
+    go (refused m) e = refl
     go (ok k) e =
-        let (c, v) = few-entries k (parsed-valid s k e) (other k e) in
-        rw (le-leb _ _ c, le-leb _ _ v) refl
+        let (c, v) = few-entries k (parsed-valid s k e) in
+        rw (le-leb _ _ (le-trans c (room k e)), le-leb _ _ (le-trans v (room k e))) refl

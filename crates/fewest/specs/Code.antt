@@ -1,12 +1,15 @@
 -- What the private functions give.
-use Rattle.contract.specs.Res.{test}
-use Rattle.contract.specs.Contract.{Contract}
-use Rattle.exchange.specs.declared.Objective.{Objective}
+use mathlib.Core.Path.{_≡_}
+use mathlib.Core.List.{List}
+use Prim.Native.Nat.{ℕ}
+use Rattle.contract.specs.Res.{refused}
 use Rattle.planning.specs.Answer.{answerOf}
 use Rattle.planning.specs.Areas.{Areas}
-use Rattle.planning.specs.Promise.{alongOrder, roomed, PlansFor}
+use Rattle.planning.specs.Promise.{aheadAlong}
 use Rattle.planning.specs.declared.Planned.{Planned}
 
--- the promise for a contract that was read: a table is refused ahead of 8
-pub record PlansAlong (aim : Objective) (k : Contract) (r : Planned) (before after : Areas) : Type 0 where
-  pub plans : PlansFor aim (test 2 (alongOrder (k .form)) (roomed k before)) (answerOf r) before after
+-- a record is refused, whatever the areas
+pub record Refuses (bytes : List ℕ) (r : Planned) : Type 0 where
+  pub number : ℕ
+  pub says : answerOf r ≡ refused number
+  pub ahead : (a : Areas) → aheadAlong bytes a ≡ refused number

@@ -4,7 +4,7 @@ use mathlib.Core.Path.{_≡_, refl, sym, ap, _∙_, subst}
 use mathlib.Core.Logic.{_↔_, Iff·trans}
 use mathlib.Core.Bool.{Bool, true, false, not, _&&_, and-eq-true-iff}
 use mathlib.Core.List.{List}
-use Prim.Native.Nat.{ℕ, suc, _+_, _*_, _-_, _≤_, _<_, _^_}
+use Prim.Native.Nat.{ℕ, zero, suc, _+_, _*_, _-_, _≤_, _<_, _^_}
 use native.Mathlib.Nat.{le-trans, mul-le-mul-right}
 use native.Mathlib.Decide.{decLe}
 use native.Mathlib.Omega.{arith}
@@ -44,6 +44,11 @@ between a b v x i j p q = go (decLe v x)
     go (no h) = omega (arith, mul-le-mul-right {m = x} {n = v} j (omega arith))
 
 -- ---- the deal
+
+-- where one unit may be delivered, some are
+pub some-units : (limit value n r : ℕ) → UnitsIn limit value n r → value ≤ limit → 0 < n → 0 < r
+some-units limit value n zero u one left = absurd (omega (arith, u .most left))
+some-units limit value n (suc r) u one left = omega arith
 
 module _ (s : Sides) (us cs vs : List ℕ) where
   pub rising : Rising (dealAlong s us cs vs)
@@ -242,7 +247,7 @@ module _ (s : Sides) (us cs vs : List ℕ) where
             let low = low↔ (s .price) (t .value) (to .value) (s .buyer) paid .1 (omega (arith, u .enough)) in
             record { at = a .at; low = rw (← lower-at to (a .at)) low }
 
-        pub stops : i < n → Delivered s us cs vs paid to
+        stops : i < n → Delivered s us cs vs paid to
         stops l =
             let next : c .value + suc i * getD vs (c .segment) 0 ≡ sumTo (spread us vs) (suc (to .place)) =
             let g : suc (to .place) ≡ c .place + suc i = omega (arith, a .place-is) in
@@ -253,6 +258,18 @@ module _ (s : Sides) (us cs vs : List ℕ) where
             let g = low↔ (s .price) (t .value) (sumTo (spread us vs) (suc (to .place))) (s .buyer) paid .0 (rw (k .value-is) (leZ-true _ _ .0 y)) in
             omega (arith, u .most l)) in
             record { at = a .at; reached = reach-is paid (to .place) (a .at .within) (reached-on .low) (λ _. not) }
+
+        -- the cursor is still in the same segment: units of it are left, or none at all
+        pub stops-within : to .segment ≡ c .segment → Delivered s us cs vs paid to
+        stops-within same = go (decLe (suc (to .place)) (length (spread us cs)))
+          where
+            go : Dec (suc (to .place) ≤ length (spread us cs)) → Delivered s us cs vs paid to
+            go (yes l) =
+                let left : to .used < getD us (c .segment) 0 = rw (← same) (a .at .left l) in
+                let there : to .place ≡ sumTo us (c .segment) + to .used = rw (← same) (a .at .place-is) in
+                stops (omega (arith, a .place-is, o .at .place-is))
+            go (no l) =
+                record { at = a .at; reached = reach-is paid (to .place) (a .at .within) (reached-on .low) (λ (m : to .place < length (spread us cs)). absurd (omega arith)) }
 
       pub stops-here : free < getD vs (c .segment) 0 → Delivered s us cs vs paid c
       stops-here l =

@@ -207,7 +207,8 @@ fn deliver(
         let n = left(units, c);
         let k = units_in(free, value, n);
         c = leap(units, costs, values, c, k);
-        if k < n {
+        // Units of the segment are left: one more is too much.
+        if c.segment == segment {
             return c;
         }
     }

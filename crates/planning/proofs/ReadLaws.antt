@@ -1,4 +1,4 @@
--- What the answer of the reader says of the record, where both areas have room for 128 entries and the record is no ladder's. Assumes nothing.
+-- What the answer of the reader says of the record, where both areas have room for all that it says. Assumes nothing.
 use mathlib.Core.Path.{_≡_, refl, sym, ap, _∙_, subst}
 use mathlib.Core.List.{List}
 use Prim.Native.Nat.{ℕ, _≤_, _<_}
@@ -10,14 +10,12 @@ use Rattle.contract.specs.Parse.{parse, reading}
 use Rattle.contract.specs.Valid.{Valid}
 use Rattle.contract.specs.declared.Refusal.{Refusal}
 use Rattle.contract.specs.declared.Refusal.the-variants.{Truncated, Map, Value, Limit, Range, Falling, Trailing, Short}
-use Rattle.contract.proofs.FromHeader.{from-header, reading-all}
+use Rattle.contract.proofs.FromHeader.{from-header}
 use Rattle.contract.proofs.ParsedValid.{parsed-valid}
 use Rattle.contract.proofs.Refusals.{refusal-number}
 use Rattle.record.specs.Promise.{Answer, Reads, replyOf}
 use Rattle.record.specs.declared.Reply.{Reply}
 use Rattle.record.specs.declared.Outcome.{Outcome}
-use Rattle.record.specs.Find.{OtherFound}
-use Rattle.record.proofs.FindLaws.{other-none}
 use Rattle.planning.specs.Stands.{Stands}
 
 -- the refusals of a contract have the numbers 1 to 8
@@ -31,13 +29,11 @@ number-range Falling = (omega arith, omega arith)
 number-range Trailing = (omega arith, omega arith)
 number-range Short = (omega arith, omega arith)
 
-module _ (bytes costs values : List ℕ) (other : OtherFound bytes) (many-costs : length costs ≡ 128) (many-values : length values ≡ 128)
+module _ (bytes costs values : List ℕ) (whole : reading bytes (length costs) (length values) ≡ parse bytes)
     (r : Outcome) (costs′ values′ : List ℕ) (h : Reads (reading bytes (length costs) (length values)) costs values r costs′ values′) where
   -- what the record says is what was read
   said : Reads (parse bytes) costs values r costs′ values′
-  said =
-      let e : reading bytes (length costs) (length values) ≡ parse bytes = rw (many-costs, many-values) (reading-all bytes (other-none bytes other)) in
-      subst (λ (x : Res Contract). Reads x costs values r costs′ values′) e h
+  said = subst (λ (x : Res Contract). Reads x costs values r costs′ values′) whole h
 
   -- a refusal is the record's
   pub read-refused : (e : Refusal) → r .reply ≡ Reply.Refused e → parse bytes ≡ refused (numberOf e)

@@ -10,12 +10,14 @@ use lib.ListN.{length, replicate, drop}
 use borrow.Author.Tests.{le-leb, lt-leb}
 use Rattle.area.specs.Entries.{entries}
 use Rattle.grid.specs.Rows.{rowsOf}
-use Rattle.contract.specs.Res.{refused, ok, bind, test}
+use Rattle.contract.specs.Res.{Res, refused, ok, bind, test}
 use Rattle.contract.specs.Contract.{Contract}
 use Rattle.contract.specs.Parse.{parse}
 use Rattle.contract.specs.Valid.{Valid, sum}
 use Rattle.contract.proofs.ParsedValid.ResLaws.{never, refused-inv}
-use Rattle.contract.specs.declared.Form.the-variants.{Table}
+use Rattle.contract.proofs.Refusals.{refusal-number}
+use Rattle.contract.specs.declared.Form.{Form}
+use Rattle.contract.specs.declared.Form.the-variants.{Ladder, UnitPrices, Table}
 use Rattle.contract.specs.declared.Refusal.the-variants.{Short}
 use Rattle.exchange.specs.Deal.{Deal, State, Plan}
 use Rattle.exchange.specs.Forms.{table}
@@ -26,16 +28,30 @@ use Rattle.search.specs.Promise as search
 use Rattle.planning.specs.Answer.{answerOf}
 use Rattle.planning.specs.Areas.{Areas, areas, planAreas, hasRoom, workFor, roomFor, workCleared}
 use Rattle.planning.specs.Deals.{contractWith, unitCount}
-use Rattle.planning.specs.Promise.{roomed, ahead, Plans, PlansFor, PlansOf}
+use Rattle.planning.specs.Promise.{alongOrder, roomed, ahead, Plans, PlansFor, PlansOf}
 use Rattle.planning.specs.declared.Planned.{Planned}
 use Rattle.planning.proofs.ReadLaws.{number-range}
 use Rattle.planning.proofs.Outcome.{short-said, room-said}
 use Rattle.planning.proofs.TablePlan.{few-items, costs-rows, few-rows, cells-rise, table-suits, table-none, table-success}
 use Rattle.sizes.specs.Units.{unitsFew}
 use Rattle.sizes.proofs.UnitLaws.{units-few}
+use Rattle.along.specs.Code.{PlansFound}
 use Rattle.plans.specs.Code.{workAfter}
 
 -- ---- the work area
+
+-- the refusals ahead of 9 have numbers up to 8
+few-refusals : (bytes : List ℕ) (a : Areas) (n : ℕ) → ahead bytes a ≡ refused n → n ≤ 8
+unfolding ahead
+few-refusals bytes a n e = go (parse bytes) refl e
+  where
+    room : (k : Contract) (b : Bool) → test 8 b (ok k) ≡ refused n → n ≤ 8
+    room k true e = never (sym e)
+    room k false e = omega (arith, refused-inv e)
+
+    go : (x : Res Contract) → parse bytes ≡ x → bind x (λ k. roomed k a) ≡ refused n → n ≤ 8
+    go (refused m) q e = omega (arith, refused-inv e, refusal-number bytes m q .1)
+    go (ok k) q e = room k (roomFor k a) e
 
 -- the room in four areas, by that in three
 work-room : (u bytes : ℕ) (p s o w : List ℕ) → hasRoom u bytes (areas p s o w) ≡ (hasRoom u 0 (planAreas p s o) && leb bytes (length w))
@@ -44,11 +60,8 @@ work-room u bytes p s o w =
     ap (λ (b : Bool). b && leb bytes (length w))
     (sym (and-true (leb (2 * u + 1) (length (entries 2 p)) && leb (2 * u + 1) (length (entries 4 s)) && leb 8 (length o))))
 
--- a contract that needs no work area: what was planned in three areas, with the work area settled
-module _ (k : Contract) (z : workFor (k .form) (k .units) (unitCount k) ≡ 0) (p s o w p′ s′ o′ w′ : List ℕ) where
-  same-room : roomFor k (areas p s o w) ≡ roomFor k (planAreas p s o)
-  same-room = rw z (work-room (unitCount k) 0 p s o w ∙ rw (le-leb 0 (length w) (omega arith)) (and-true (hasRoom (unitCount k) 0 (planAreas p s o))))
-
+-- what was planned in three areas, with the work area settled
+module _ (p s o w p′ s′ o′ w′ : List ℕ) where
   -- the three areas are as they were
   others-kept : planAreas p′ s′ o′ ≡ planAreas p s o → (v : List ℕ) → w′ ≡ v → areas p′ s′ o′ w′ ≡ areas p s o v
   others-kept e v q =
@@ -57,14 +70,14 @@ module _ (k : Contract) (z : workFor (k .form) (k .units) (unitCount k) ≡ 0) (
       let eo : o′ ≡ o = ap (λ (a : Areas). a .order) e in
       rw (ep, es, eo, q) refl
 
-  settled-by : (b : Bool) (r : Planned) → PlansFor Objective.Steps (test 8 b (ok k)) (answerOf r) (planAreas p s o) (planAreas p′ s′ o′)
-      → w′ ≡ workAfter r w → PlansFor Objective.Steps (test 8 b (ok k)) (answerOf r) (areas p s o w) (areas p′ s′ o′ w′)
-  settled-by false (Planned.Refused e) h q = (h .0, others-kept (h .1) w q)
-  settled-by false Planned.Impossible h q = absurd (omega (arith, refused-inv (h .0)))
-  settled-by false (Planned.Steps n) h q = never (sym (h .0))
-  settled-by true (Planned.Refused e) h q = absurd (omega (arith, h .0, number-range e .1))
-  settled-by true Planned.Impossible h q = (h .0, (h .1 .0, others-kept (h .1 .1) (replicate (length w) 0) q))
-  settled-by true (Planned.Steps n) h q =
+  settled-by : (x : Res Contract) → ((n : ℕ) → x ≡ refused n → n ≤ 8) → (r : Planned) → PlansFor Objective.Steps x (answerOf r) (planAreas p s o) (planAreas p′ s′ o′)
+      → w′ ≡ workAfter r w → PlansFor Objective.Steps x (answerOf r) (areas p s o w) (areas p′ s′ o′ w′)
+  settled-by (refused n) small (Planned.Refused e) h q = (h .0, others-kept (h .1) w q)
+  settled-by (refused n) small Planned.Impossible h q = absurd (omega (arith, refused-inv (h .0), small n refl))
+  settled-by (refused n) small (Planned.Steps m) h q = never (sym (h .0))
+  settled-by (ok k) small (Planned.Refused e) h q = absurd (omega (arith, h .0, number-range e .1))
+  settled-by (ok k) small Planned.Impossible h q = (h .0, (h .1 .0, others-kept (h .1 .1) (replicate (length w) 0) q))
+  settled-by (ok k) small (Planned.Steps n) h q =
       record {
         order = h .order;
         ours = h .ours;
@@ -75,13 +88,30 @@ module _ (k : Contract) (z : workFor (k .form) (k .units) (unitCount k) ≡ 0) (
         work = q;
       }
 
-  pub settled : (x r : Planned) → PlansOf Objective.Steps k x (planAreas p s o) (planAreas p′ s′ o′) → (r ≡ x) × (w′ ≡ workAfter x w)
-      → PlansOf Objective.Steps k r (areas p s o w) (areas p′ s′ o′ w′)
-  settled x r h (e, q) =
-      record {
-        plans =
-            rw (e, same-room) (settled-by (roomFor k (planAreas p s o)) x (h .plans) q);
-      }
+-- a record of a form that needs no work area
+module _ (bytes : List ℕ) (along : (k : Contract) → parse bytes ≡ ok k → alongOrder (k .form) ≡ true) (p s o w : List ℕ) where
+  no-work : (f : Form) (us : List ℕ) (u : ℕ) → alongOrder f ≡ true → workFor f us u ≡ 0
+  no-work Ladder us u e = refl
+  no-work UnitPrices us u e = refl
+  no-work Table us u e = let z : _≡_ {A = ℕ} 0 1 = cc in absurd (omega arith)
+
+  same-room : (k : Contract) → alongOrder (k .form) ≡ true → roomFor k (areas p s o w) ≡ roomFor k (planAreas p s o)
+  same-room k e =
+      rw (no-work (k .form) (k .units) (unitCount k) e)
+      (work-room (unitCount k) 0 p s o w ∙ rw (le-leb 0 (length w) (omega arith)) (and-true (hasRoom (unitCount k) 0 (planAreas p s o))))
+
+  same-ahead : ahead bytes (areas p s o w) ≡ ahead bytes (planAreas p s o)
+  unfolding ahead
+  same-ahead = go (parse bytes) refl
+    where
+      go : (x : Res Contract) → parse bytes ≡ x → bind x (λ k. roomed k (areas p s o w)) ≡ bind x (λ k. roomed k (planAreas p s o))
+      go (refused n) e = refl
+      go (ok k) e = rw (same-room k (along k e)) refl
+
+  pub settled : (p′ s′ o′ w′ : List ℕ) (x r : Planned) → PlansFound Objective.Steps bytes x (planAreas p s o) (planAreas p′ s′ o′)
+      → (r ≡ x) × (w′ ≡ workAfter x w) → Plans (ahead bytes (areas p s o w)) (answerOf r) (areas p s o w) (areas p′ s′ o′ w′)
+  settled p′ s′ o′ w′ x r h (e, q) =
+      rw (e, same-ahead) (settled-by p s o w p′ s′ o′ w′ (ahead bytes (planAreas p s o)) (few-refusals bytes (planAreas p s o)) x (h .plans) q)
 
 -- ---- the answers of the search
 
@@ -159,16 +189,3 @@ module _ (s : Sides) (us cs vs : List ℕ) (v : Valid (contractWith Table s us c
 
   pub table-unfit : r ≡ exchange.Planned.Unfit → {X : Type 0} → X
   table-unfit e = search-unfit _ _ r p q w p′ q′ w′ said e (table-suits s us cs vs v (areas p q o w) h)
-
--- ---- a record
-
--- a record that is refused
-pub refused-plans : (bytes : List ℕ) (a : Areas) (n : ℕ) → parse bytes ≡ refused n → Plans (ahead bytes a) (refused n) a a
-unfolding ahead
-refused-plans bytes a n e = rw e (refl, refl)
-
--- a record that says a contract
-pub accepted-plans : (bytes : List ℕ) (k : Contract) (r : Planned) (a a′ : Areas) → parse bytes ≡ ok k → PlansOf Objective.Steps k r a a′
-    → Plans (ahead bytes a) (answerOf r) a a′
-unfolding ahead
-accepted-plans bytes k r a a′ e h = subst (λ x. Plans (bind x (λ k. roomed k a)) (answerOf r) a a′) (sym e) (h .plans)

@@ -5,7 +5,6 @@ ghost use Rattle.planning.specs.Areas.{areas};
 ghost use Rattle.planning.specs.Promise.{ahead, Plans};
 ghost use Rattle.plans.specs.Code.{workAfter};
 
-mod contracts;
 mod table;
 
 use exchange::Objective;
@@ -46,6 +45,10 @@ pub fn plan(
             let answer = along::plan_ladder(l, bytes, Objective::Steps, places, sums, order);
             settle(answer, work)
         }
-        Found::Other => contracts::plan_other(bytes, places, sums, order, work),
+        Found::UnitPrices => {
+            let answer = along::plan_prices(bytes, Objective::Steps, places, sums, order);
+            settle(answer, work)
+        }
+        Found::Table => table::plan_table(bytes, places, sums, order, work),
     }
 }

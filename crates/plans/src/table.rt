@@ -4,13 +4,16 @@ ghost use Rattle.contract.specs.Contract.{contractOf};
 ghost use Rattle.contract.specs.Valid.{Valid};
 ghost use Rattle.contract.specs.declared.Form.the-variants.{Table};
 ghost use Rattle.exchange.specs.declared.Objective.{Objective};
+ghost use Rattle.record.specs.Find.{HeadFound};
+ghost use Rattle.planning.specs.Answer.{answerOf};
 ghost use Rattle.planning.specs.Deals.{contractWith};
 ghost use Rattle.planning.specs.Areas.{areas};
-ghost use Rattle.planning.specs.Promise.{PlansOf};
+ghost use Rattle.planning.specs.Promise.{ahead, Plans, PlansOf};
 ghost use Rattle.planning.specs.Stands.{Stands};
 use contract::Header;
 use contract::Refusal;
 use planning::Planned;
+use record::Reply;
 
 // Plans the rows of a table; no order to name.
 fn plan_rows(
@@ -44,7 +47,7 @@ fn plan_rows(
 }
 
 // Plans a table whose costs and values stand at the front of two areas.
-pub(crate) fn plan_table(
+fn plan_contract(
     header: Header,
     costs: &[u32],
     values: &[u32],
@@ -74,4 +77,25 @@ pub(crate) fn plan_table(
         order,
         work,
     )
+}
+
+// Plans a table that was found in its record: two areas of 128 have room for its costs and values.
+pub(crate) fn plan_table(
+    bytes: &[u8],
+    places: &mut [u8],
+    sums: &mut [u8],
+    order: &mut [u8],
+    work: &mut [u8],
+) -> Planned
+    requires { ⌜ HeadFound Table (now bytes) ⌝ }
+    ensures { λ r. ⌜ Plans (ahead (now (bytes .entry)) (areas (now (places .entry)) (now (sums .entry)) (now (order .entry)) (now (work .entry)))) (answerOf r) (areas (now (places .entry)) (now (sums .entry)) (now (order .entry)) (now (work .entry))) (areas (now (places .exit)) (now (sums .exit)) (now (order .exit)) (now (work .exit))) ⌝ }
+{
+    let mut costs = [0u32; 128];
+    let mut values = [0u32; 128];
+    let read = record::read(bytes, &mut costs, &mut values);
+    let reply = read.reply;
+    match reply {
+        Reply::Refused(e) => Planned::Refused(e),
+        Reply::Accepted => plan_contract(read.header, &costs, &values, places, sums, order, work),
+    }
 }

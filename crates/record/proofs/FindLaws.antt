@@ -1,8 +1,9 @@
 -- Laws of finding a ladder in its record. Assumes nothing.
 use mathlib.Core.Path.{_≡_, refl, sym, ap, subst, _∙_}
+use mathlib.Core.Logic.{inl, inr}
 use mathlib.Core.Bool.{Bool, true, false}
 use mathlib.Core.List.{List}
-use Prim.Native.Nat.{ℕ, zero, suc, _+_}
+use Prim.Native.Nat.{ℕ, zero, suc, _+_, _≤_}
 use native.Mathlib.Nat.{zero-add, add-zero, one-mul}
 use native.Mathlib.Omega.{arith}
 use lib.Dec.{eqb}
@@ -13,15 +14,16 @@ use Rattle.grid.specs.Rows.{rising}
 use Rattle.contract.specs.Res.{Res, refused, ok, bind}
 use Rattle.contract.specs.Contract.{Contract}
 use Rattle.contract.specs.Field.{Head, headAt}
-use Rattle.contract.specs.Parse.{parse, bodyAt}
+use Rattle.contract.specs.Parse.{parse, bodyAt, reading}
 use Rattle.contract.specs.Segments.{Sums, from, costValue, segment, segments, segmentCount, segmentContract, segmentBody}
 use Rattle.contract.specs.Serialize.{formBits}
 use Rattle.contract.specs.Table.{tableAt, tableContract, tableEnd, tableBody, unitsOf, cellsOf}
 use Rattle.contract.specs.Valid.{sum}
 use Rattle.contract.specs.declared.Form.{Form}
+use Rattle.contract.proofs.FromHeader.{mostEntries, reading-all}
 use Rattle.contract.proofs.ParsedValid.ResLaws.{never, refused-inv, ok-inv, bind-inv, test-inv, Gives, passed}
 use Rattle.contract.proofs.ParsedValid.FieldLaws.{amount-gives}
-use Rattle.record.specs.Find.{LadderFound, soughtAt, sought, OtherFound}
+use Rattle.record.specs.Find.{LadderFound, soughtAt, sought, HeadFound, OtherFound}
 use Rattle.record.specs.View.Head.{LadderHead}
 use Rattle.record.specs.View.Segments.{Found, found, ToEnd}
 use Rattle.record.proofs.AnswerLaws.{parse-form}
@@ -115,32 +117,47 @@ body-form Form.Ladder s h k e = segments-form false s h k e
 body-form Form.UnitPrices s h k e = segments-form true s h k e
 body-form Form.Table s h k e = table-form s h k e
 
--- a record whose head is of another form says no ladder
-no-ladder : (s : List ℕ) (h : Head) → headAt s ≡ ok h → (h .form ≡ Form.Ladder → ⊥) → (k : Contract) → parse s ≡ ok k → k .form ≡ Form.Ladder → ⊥
-no-ladder s h e other k p l = other (sym (body-form (h .form) s h k (sym (parse-form s h (h .form) e refl) ∙ p)) ∙ l)
-
 -- finding hands on the head that was read
 sought-head : (f : Form) (s : List ℕ) (h : Head) {g : Head} → soughtAt f s h ≡ ok g → h ≡ g
 sought-head Form.Ladder s h e = let (_, _, e₁) = bind-inv (segmentBody false s h) _ e in ok-inv e₁
 sought-head Form.UnitPrices s h e = ok-inv e
 sought-head Form.Table s h e = ok-inv e
 
-pub other-none : (s : List ℕ) → OtherFound s → (k : Contract) → parse s ≡ ok k → k .form ≡ Form.Ladder → ⊥
+-- the contract of a record has the form that its head names
+pub found-form : (f : Form) (s : List ℕ) → HeadFound f s → (k : Contract) → parse s ≡ ok k → k .form ≡ f
 unfolding sought
-other-none s o =
+found-form f s o k p =
     let (h, eh, e) = bind-inv (headAt s) _ (o .says) in
-    no-ladder s (o .head) (eh ∙ ap ok (sought-head (h .form) s h e)) (o .other)
+    let read : headAt s ≡ ok (o .head) = eh ∙ ap ok (sought-head (h .form) s h e) in
+    body-form (o .head .form) s (o .head) k (sym (parse-form s (o .head) (o .head .form) read refl) ∙ p) ∙ o .form-is
+
+-- areas with room for a form are never too short for its records
+pub found-whole : (f : Form) (s : List ℕ) → HeadFound f s → (n : ℕ) → mostEntries f ≤ n → reading s n n ≡ parse s
+found-whole f s o n room = reading-all s n (λ k p. rw (found-form f s o k p) room)
 
 -- a head of another form is all that finding reads
-pub other-found : (s : List ℕ) (h : Head) (f : Form) → headAt s ≡ ok h → h .form ≡ f → (formBits f ≡ 1 → ⊥) → OtherFound s
+pub head-found : (f : Form) (s : List ℕ) (h : Head) → headAt s ≡ ok h → h .form ≡ f → (formBits f ≡ 1 → ⊥) → HeadFound f s
 unfolding sought
-other-found s h f e q other =
-    record { head = h; says = rw e (ap (λ (g : Form). soughtAt g s h) q ∙ go f other); other = λ l. other (ap formBits (sym q ∙ l)) }
+head-found f s h e q other = record { head = h; says = rw e (ap (λ (g : Form). soughtAt g s h) q ∙ go f other); form-is = q }
   where
     go : (f : Form) → (formBits f ≡ 1 → ⊥) → soughtAt f s h ≡ ok h
     go Form.Ladder n = absurd (n refl)
     go Form.UnitPrices n = refl
     go Form.Table n = refl
+
+-- ---- no ladder
+
+pub other-none : (s : List ℕ) → OtherFound s → (k : Contract) → parse s ≡ ok k → k .form ≡ Form.Ladder → ⊥
+other-none s (inl o) k p l =
+    let e : _≡_ {A = ℕ} 2 1 = ap formBits (sym (found-form Form.UnitPrices s o k p) ∙ l) in
+    omega arith
+other-none s (inr o) k p l =
+    let e : _≡_ {A = ℕ} 4 1 = ap formBits (sym (found-form Form.Table s o k p) ∙ l) in
+    omega arith
+
+pub other-whole : (s : List ℕ) → OtherFound s → reading s 128 128 ≡ parse s
+other-whole s (inl o) = found-whole Form.UnitPrices s o 128 (omega arith)
+other-whole s (inr o) = found-whole Form.Table s o 128 (omega arith)
 
 -- ---- refusals
 

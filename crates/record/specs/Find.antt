@@ -1,5 +1,6 @@
 -- What finding a ladder promises.
 use mathlib.Core.Path.{_≡_}
+use mathlib.Core.Logic.{_⊎_}
 use mathlib.Core.Bool.{false}
 use mathlib.Core.List.{List, []}
 use Prim.Native.Nat.{ℕ, _+_, _*_, _≤_}
@@ -47,13 +48,18 @@ unfoldable pub sought : List ℕ → Res Head
 sought s = bind (headAt s) (λ h. soughtAt (h .form) s h)
 
 -- another form, which the head names
-pub record OtherFound (s : List ℕ) : Type 0 where
+pub record HeadFound (f : Form) (s : List ℕ) : Type 0 where
   pub head : Head
   pub says : sought s ≡ ok head
-  pub other : head .form ≡ Form.Ladder → ⊥
+  pub form-is : head .form ≡ f
 
--- the promise of finding a ladder: the refusal as far as it reads, a ladder, or another form. No two answers keep it (`found-one`)
+-- one of the two other forms
+abbrev pub OtherFound : List ℕ → Type 0
+OtherFound s = HeadFound Form.UnitPrices s ⊎ HeadFound Form.Table s
+
+-- the promise of finding a ladder: the refusal as far as it reads, a ladder, or which other form it is. No two answers keep it (`found-one`)
 abbrev pub Finds : List ℕ → Found → Type 0
 Finds s (Found.Refused e) = sought s ≡ refused (numberOf e)
 Finds s (Found.Ladder l) = LadderFound s l
-Finds s Found.Other = OtherFound s
+Finds s Found.UnitPrices = HeadFound Form.UnitPrices s
+Finds s Found.Table = HeadFound Form.Table s

@@ -55,8 +55,9 @@ pub struct Ladder {
 pub enum Found {
     Refused(Refusal),
     Ladder(Ladder),
-    // Unit prices or a table, not looked at beyond the head.
-    Other,
+    // Not looked at beyond the head.
+    UnitPrices,
+    Table,
 }
 
 // Reads a record: its costs and values go to the front of two areas.
@@ -86,8 +87,8 @@ pub fn find(bytes: &[u8]) -> Found
             let form = h.form;
             match form {
                 Form::Ladder => rises::find_ladder(bytes, h),
-                Form::UnitPrices => Found::Other,
-                Form::Table => Found::Other,
+                Form::UnitPrices => Found::UnitPrices,
+                Form::Table => Found::Table,
             }
         }
     }

@@ -4,7 +4,7 @@ use mathlib.Core.Path.{sym, _∙_}
 use lib.ListN.{replicate}
 use borrow.Author.Tests.{not-true, not-false}
 use Rattle.planning.proofs.Outcome.{room}
-use Rattle.along.proofs.PlanLaws.{too-short, ladder-room, ladder-can, ladder-plans, ladder-impossible, ladder-unfit}
+use Rattle.along.proofs.PlanLaws.{ladder-short, ladder-room, ladder-can, ladder-plans, ladder-impossible, ladder-unfit}
 use Rattle.along.proofs.RoomLaws.{stored-eight}
 use borrow.Author.Needs.{needs}
 use Rattle.along.proofs.plan_ladder.Statement.{statement}
@@ -23,7 +23,7 @@ same-length-3 : tie.Need-same-length-3
 same-length-3 c = search needs
 
 returns : tie.Need-returns
-returns c = too-short _ _ _ (sym (ladder-room (now (c .before .before .before .before .before .before .before .before .before .args .bytes)) (c .before .before .before .before .before .before .before .before .before .args .l) _ _ (c .before .has-room .ensures)) ∙ not-true _ (c .if1 .taken))
+returns c = ladder-short _ (now (c .before .before .before .before .before .before .before .before .before .args .bytes)) (c .before .before .before .before .before .before .before .before .before .args .l) (c .before .before .before .before .before .before .before .before .before .pre) _ (sym (ladder-room (now (c .before .before .before .before .before .before .before .before .before .args .bytes)) (c .before .before .before .before .before .before .before .before .before .args .l) _ _ (c .before .has-room .ensures)) ∙ not-true _ (c .if1 .taken))
 
 ladder-of-requires : tie.Need-ladder-of-requires
 ladder-of-requires c κs = search needs

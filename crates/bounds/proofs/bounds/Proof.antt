@@ -1,6 +1,7 @@
 -- `bounds::bounds` meets its contract, by what was found in the record. Assumes nothing.
 use denote.Ref.{now}
 use mathlib.Core.Path.{subst}
+use mathlib.Core.Logic.{inl, inr}
 use Rattle.record.specs.Find.{Finds}
 use Rattle.record.proofs.FindLaws.{sought-refused}
 use Rattle.bounds.proofs.BoundsLaws.{bounds-refused, bounds-read}
@@ -24,7 +25,13 @@ enum-told : tie.Need-enum-told
 enum-told c = search needs
 
 bounds-other-requires : tie.Need-bounds-other-requires
-bounds-other-requires c κs = subst (Finds (now (c .before .before .before .before .before .args .bytes))) (c .enum-told .given .1) (c .before .before .find .ensures)
+bounds-other-requires c κs = inl (subst (Finds (now (c .before .before .before .before .before .args .bytes))) (c .enum-told .given .1) (c .before .before .find .ensures))
+
+enum-told-2 : tie.Need-enum-told-2
+enum-told-2 c = search needs
+
+bounds-other-requires-2 : tie.Need-bounds-other-requires-2
+bounds-other-requires-2 c κs = inr (subst (Finds (now (c .before .before .before .before .before .args .bytes))) (c .enum-told2 .given .1) (c .before .before .find .ensures))
 
 returns : tie.Need-returns
 returns c = bounds-refused _ _ _ (sought-refused _ (subst (Finds (now (c .before .before .before .before .before .before .args .bytes))) (c .before .e .given .1) (c .before .before .before .find .ensures)))
@@ -34,6 +41,9 @@ returns-2 c = bounds-read _ _ _ ((subst (Finds (now (c .before .before .before .
 
 returns-3 : tie.Need-returns-3
 returns-3 c = search needs
+
+returns-4 : tie.Need-returns-4
+returns-4 c = search needs
 
 pub bounds-spec : {M : Type 1} → statement M
 bounds-spec =
@@ -45,6 +55,9 @@ bounds-spec =
     bounds-ladder-requires
     enum-told
     bounds-other-requires
+    enum-told-2
+    bounds-other-requires-2
     returns
     returns-2
-    returns-3)
+    returns-3
+    returns-4)

@@ -1,6 +1,7 @@
 -- `checks::check` meets its contract, by what was found in the record. Assumes nothing.
 use denote.Ref.{now}
 use mathlib.Core.Path.{subst}
+use mathlib.Core.Logic.{inl, inr}
 use Rattle.exchange.specs.PlanIn.{planIn}
 use Rattle.record.specs.Find.{Finds}
 use Rattle.record.proofs.FindLaws.{sought-refused}
@@ -25,7 +26,13 @@ enum-told : tie.Need-enum-told
 enum-told c = search needs
 
 check-other-requires : tie.Need-check-other-requires
-check-other-requires c κs = subst (Finds (now (c .before .before .before .before .before .before .before .args .bytes))) (c .enum-told .given .1) (c .before .before .find .ensures)
+check-other-requires c κs = inl (subst (Finds (now (c .before .before .before .before .before .before .before .args .bytes))) (c .enum-told .given .1) (c .before .before .find .ensures))
+
+enum-told-2 : tie.Need-enum-told-2
+enum-told-2 c = search needs
+
+check-other-requires-2 : tie.Need-check-other-requires-2
+check-other-requires-2 c κs = inr (subst (Finds (now (c .before .before .before .before .before .before .before .args .bytes))) (c .enum-told2 .given .1) (c .before .before .find .ensures))
 
 returns : tie.Need-returns
 returns c = check-refused _ _ _ _ _ _ (sought-refused _ (subst (Finds (now (c .before .before .before .before .before .before .before .before .args .bytes))) (c .before .e .given .1) (c .before .before .before .find .ensures)))
@@ -35,6 +42,9 @@ returns-2 c = check-read _ (c .before .before .before .before .before .before .b
 
 returns-3 : tie.Need-returns-3
 returns-3 c = search needs
+
+returns-4 : tie.Need-returns-4
+returns-4 c = search needs
 
 pub check-spec : {M : Type 1} → statement M
 check-spec =
@@ -46,6 +56,9 @@ check-spec =
     check-ladder-requires
     enum-told
     check-other-requires
+    enum-told-2
+    check-other-requires-2
     returns
     returns-2
-    returns-3)
+    returns-3
+    returns-4)

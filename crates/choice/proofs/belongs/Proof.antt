@@ -1,13 +1,18 @@
 -- `choice::belongs` meets its contract. Assumes nothing.
-use Rattle.choice.proofs.ItemLaws.{ltb-not}
+use native.Mathlib.Omega.{arith}
+use borrow.Author.Needs.{needs}
+use Rattle.choice.proofs.ItemLaws.{flag-few, placed-by}
 use Rattle.choice.proofs.belongs.Statement.{statement}
 use Rattle.choice.proofs.belongs.Tie as tie
 
-returns : tie.Need-returns
-returns c = rw (c .if1 .taken)
+cast-result : tie.Need-cast-result
+cast-result c = search needs
 
-returns-2 : tie.Need-returns-2
-returns-2 c = rw (c .if1 .left) (ltb-not (c .before .args .need) (c .before .args .give))
+add-result : tie.Need-add-result
+add-result c = omega (arith, flag-few (c .args .front))
+
+returns : tie.Need-returns
+returns c = placed-by (c .args .front) (c .args .need) (c .args .give)
 
 pub belongs-spec : {M : Type 1} → statement M
-belongs-spec = tie.close (tie.spec returns returns-2)
+belongs-spec = tie.close (tie.spec cast-result add-result returns)

@@ -3,7 +3,7 @@ use Prim.Native.Nat.{_-_}
 use native.Mathlib.Omega.{arith}
 use Rattle.line.specs.Code.{Reached}
 use Rattle.line.proofs.SegmentLaws.{opened, in-units, few-before, value-fits}
-use Rattle.line.proofs.DealLaws.{low-sums, reached-on, stops, stops-here, stops-last}
+use Rattle.line.proofs.DealLaws.{some-units, low-sums, reached-on, stops-within, stops-here, stops-last}
 use Rattle.line.proofs.deliver.Statement.{statement}
 use Rattle.line.proofs.deliver.Tie as tie
 
@@ -52,18 +52,19 @@ leap-requires c κs = (opened _ _ _ _ (c .before .before .before .before .before
 
 returns-2 : tie.Need-returns-2 Inv-loop μ-loop
 returns-2 c =
-    let a = c .before .before .before .before .before .before .before .before .before .before .before .before .before .before .args in
-    stops (a .sides) (a .units .now) (a .costs .now) (a .values .now) (a .t) (c .before .before .before .before .before .before .before .before .before .before .before .before .before .before .pre .0) _ _ (opened _ _ _ _ (c .before .before .before .before .before .before .before .before .before .before .before .before .before .before .pre .0) _ (c .before .before .before .before .before .before .before .before .before .before .loop .inv .at) (c .before .before .before .before .before .before .before .if1 .taken)) _ (c .before .before .before .before .before .slack .ensures) _ (c .before .before .before .left .ensures) _ (c .before .before .units-in .ensures) _ (c .before .leap .ensures) (c .if3 .taken)
+    let a = c .before .before .before .before .before .before .before .before .before .before .before .before .before .before .before .args in
+    stops-within (a .sides) (a .units .now) (a .costs .now) (a .values .now) (a .t) (c .before .before .before .before .before .before .before .before .before .before .before .before .before .before .before .pre .0) _ _ (opened _ _ _ _ (c .before .before .before .before .before .before .before .before .before .before .before .before .before .before .before .pre .0) _ (c .before .before .before .before .before .before .before .before .before .before .before .loop .inv .at) (c .before .before .before .before .before .before .before .before .if1 .taken)) _ (c .before .before .before .before .before .before .slack .ensures) _ (c .before .before .before .before .left .ensures) _ (c .before .before .before .units-in .ensures) _ (c .before .before .leap .ensures) (c .if3 .taken)
 
 loop-less : tie.Need-loop-less Inv-loop μ-loop
 loop-less c =
-    let o = opened _ _ _ _ (c .before .before .before .before .before .before .before .before .before .before .before .before .before .before .pre .0) _ (c .before .before .before .before .before .before .before .before .before .before .loop .inv .at) (c .before .before .before .before .before .before .before .if1 .taken) in
-    omega (arith, o .at .left (o .more), c .before .leap .ensures .place-is, c .before .before .before .left .ensures)
+    let o = opened _ _ _ _ (c .before .before .before .before .before .before .before .before .before .before .before .before .before .before .before .pre .0) _ (c .before .before .before .before .before .before .before .before .before .before .before .loop .inv .at) (c .before .before .before .before .before .before .before .before .if1 .taken) in
+    let some = some-units _ _ _ _ (c .before .before .before .units-in .ensures) (c .before .before .before .before .before .if2 .left) (omega (arith, o .at .left (o .more), c .before .before .before .before .left .ensures)) in
+    omega (arith, o .at .left (o .more), c .before .before .leap .ensures .place-is, c .before .before .before .before .left .ensures, some)
 
 loop-again : tie.Need-loop-again Inv-loop μ-loop
 loop-again c =
-    let a = c .before .before .before .before .before .before .before .before .before .before .before .before .before .before .args in
-    reached-on (a .sides) (a .units .now) (a .costs .now) (a .values .now) (a .t) (c .before .before .before .before .before .before .before .before .before .before .before .before .before .before .pre .0) _ _ (opened _ _ _ _ (c .before .before .before .before .before .before .before .before .before .before .before .before .before .before .pre .0) _ (c .before .before .before .before .before .before .before .before .before .before .loop .inv .at) (c .before .before .before .before .before .before .before .if1 .taken)) _ (c .before .before .before .before .before .slack .ensures) _ (c .before .before .before .left .ensures) _ (c .before .before .units-in .ensures) _ (c .before .leap .ensures)
+    let a = c .before .before .before .before .before .before .before .before .before .before .before .before .before .before .before .args in
+    reached-on (a .sides) (a .units .now) (a .costs .now) (a .values .now) (a .t) (c .before .before .before .before .before .before .before .before .before .before .before .before .before .before .before .pre .0) _ _ (opened _ _ _ _ (c .before .before .before .before .before .before .before .before .before .before .before .before .before .before .before .pre .0) _ (c .before .before .before .before .before .before .before .before .before .before .before .loop .inv .at) (c .before .before .before .before .before .before .before .before .if1 .taken)) _ (c .before .before .before .before .before .before .slack .ensures) _ (c .before .before .before .before .left .ensures) _ (c .before .before .before .units-in .ensures) _ (c .before .before .leap .ensures)
 
 returns-3 : tie.Need-returns-3 Inv-loop μ-loop
 returns-3 c =

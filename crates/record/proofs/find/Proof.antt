@@ -3,7 +3,7 @@ use denote.Ref.{now}
 use Rattle.contract.specs.declared.Form.the-variants.{UnitPrices, Table}
 use Rattle.record.specs.View.Head.{viewHead, headOf}
 use Rattle.record.proofs.Laws.{asked}
-use Rattle.record.proofs.FindLaws.{head-refused, other-found}
+use Rattle.record.proofs.FindLaws.{head-refused, head-found}
 use borrow.Author.Needs.{needs}
 use Rattle.record.proofs.find.Statement.{statement}
 use Rattle.record.proofs.find.Tie as tie
@@ -40,10 +40,10 @@ returns-2 : tie.Need-returns-2
 returns-2 c = search needs
 
 returns-3 : tie.Need-returns-3
-returns-3 c = other-found (now (c .before .before .before .before .before .before .before .args .bytes)) (headOf (c .before .before .before .h .given .0 .0)) UnitPrices (asked viewHead (c .before .before .before .before .before .head-at .ensures .meets) (c .before .before .before .h .given .1)) (c .enum-told2 .given .1) (λ e. absurd (omega arith))
+returns-3 c = head-found UnitPrices (now (c .before .before .before .before .before .before .before .args .bytes)) (headOf (c .before .before .before .h .given .0 .0)) (asked viewHead (c .before .before .before .before .before .head-at .ensures .meets) (c .before .before .before .h .given .1)) (c .enum-told2 .given .1) (λ e. absurd (omega arith))
 
 returns-4 : tie.Need-returns-4
-returns-4 c = other-found (now (c .before .before .before .before .before .before .before .args .bytes)) (headOf (c .before .before .before .h .given .0 .0)) Table (asked viewHead (c .before .before .before .before .before .head-at .ensures .meets) (c .before .before .before .h .given .1)) (c .enum-told3 .given .1) (λ e. absurd (omega arith))
+returns-4 c = head-found Table (now (c .before .before .before .before .before .before .before .args .bytes)) (headOf (c .before .before .before .h .given .0 .0)) (asked viewHead (c .before .before .before .before .before .head-at .ensures .meets) (c .before .before .before .h .given .1)) (c .enum-told3 .given .1) (λ e. absurd (omega arith))
 
 pub find-spec : {M : Type 1} → statement M
 find-spec =

@@ -1,8 +1,7 @@
 -- `bounds::by_form::bounds_other` meets its contract, by what was read. Assumes nothing.
-use mathlib.Core.Path.{refl}
 use Rattle.planning.proofs.ReadLaws.{read-refused, read-accepted, read-stands}
 use Rattle.bounds.proofs.BoundsLaws.{bounds-refused, bounds-read}
-use Rattle.record.proofs.FindLaws.{other-none}
+use Rattle.record.proofs.FindLaws.{other-none, other-whole}
 use borrow.Author.Needs.{needs}
 use Rattle.bounds.proofs.by_form.bounds_other.Statement.{statement}
 use Rattle.bounds.proofs.by_form.bounds_other.Tie as tie
@@ -29,13 +28,13 @@ slice-aggregate-bounds-in-2 : tie.Need-slice-aggregate-bounds-in-2
 slice-aggregate-bounds-in-2 c = search needs
 
 bounds-in-requires : tie.Need-bounds-in-requires
-bounds-in-requires c κs = (read-stands _ _ _ (c .before .before .before .before .before .before .before .before .before .before .before .pre) refl refl _ _ _ (c .before .before .before .before .before .before .read .ensures) (c .before .before .enum-told .given .1), λ q. other-none _ (c .before .before .before .before .before .before .before .before .before .before .before .pre) _ (read-accepted _ _ _ (c .before .before .before .before .before .before .before .before .before .before .before .pre) refl refl _ _ _ (c .before .before .before .before .before .before .read .ensures) (c .before .before .enum-told .given .1)) q)
+bounds-in-requires c κs = (read-stands _ _ _ (other-whole _ (c .before .before .before .before .before .before .before .before .before .before .before .pre)) _ _ _ (c .before .before .before .before .before .before .read .ensures) (c .before .before .enum-told .given .1), λ q. other-none _ (c .before .before .before .before .before .before .before .before .before .before .before .pre) _ (read-accepted _ _ _ (other-whole _ (c .before .before .before .before .before .before .before .before .before .before .before .pre)) _ _ _ (c .before .before .before .before .before .before .read .ensures) (c .before .before .enum-told .given .1)) q)
 
 returns : tie.Need-returns
-returns c = bounds-refused _ _ _ (read-refused _ _ _ (c .before .before .before .before .before .before .before .before .before .before .pre) refl refl _ _ _ (c .before .before .before .before .before .read .ensures) _ (c .before .reply .given .1))
+returns c = bounds-refused _ _ _ (read-refused _ _ _ (other-whole _ (c .before .before .before .before .before .before .before .before .before .before .pre)) _ _ _ (c .before .before .before .before .before .read .ensures) _ (c .before .reply .given .1))
 
 returns-2 : tie.Need-returns-2
-returns-2 c = bounds-read _ _ _ (read-accepted _ _ _ (c .before .before .before .before .before .before .before .before .before .before .before .before .pre) refl refl _ _ _ (c .before .before .before .before .before .before .before .read .ensures) (c .before .before .before .enum-told .given .1)) (c .bounds-in .ensures)
+returns-2 c = bounds-read _ _ _ (read-accepted _ _ _ (other-whole _ (c .before .before .before .before .before .before .before .before .before .before .before .before .pre)) _ _ _ (c .before .before .before .before .before .before .before .read .ensures) (c .before .before .before .enum-told .given .1)) (c .bounds-in .ensures)
 
 pub bounds-other-spec : {M : Type 1} → statement M
 bounds-other-spec =

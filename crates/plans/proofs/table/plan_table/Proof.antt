@@ -1,53 +1,40 @@
--- `plans::table::plan_table` meets its contract, by the contracts of its callees. Assumes nothing.
-use Rattle.planning.proofs.FormArms.{table-is, table-valid, table-units, table-costs, table-values}
+-- `plans::table::plan_table` meets its contract, by what was read. Assumes nothing.
+use denote.Ref.{now}
+use native.Mathlib.Omega.{arith}
+use Rattle.contract.specs.declared.Form.the-variants.{Table}
+use Rattle.record.proofs.FindLaws.{found-form, found-whole}
+use Rattle.planning.proofs.ReadLaws.{read-refused, read-accepted, read-stands}
+use Rattle.planning.proofs.Records.{refused-plans, accepted-plans}
 use borrow.Author.Needs.{needs}
 use Rattle.plans.proofs.table.plan_table.Statement.{statement}
 use Rattle.plans.proofs.table.plan_table.Tie as tie
 
-cast-n : tie.Need-cast-n
-cast-n c = search needs
+slice-aggregate-read : tie.Need-slice-aggregate-read
+slice-aggregate-read c = search needs
 
-sub-row-count : tie.Need-sub-row-count
-sub-row-count c = search needs
+slice-aggregate-read-2 : tie.Need-slice-aggregate-read-2
+slice-aggregate-read-2 c = search needs
 
-part-row-count-start : tie.Need-part-row-count-start
-part-row-count-start c = search needs
+read-requires : tie.Need-read-requires
+read-requires c κs = search needs
 
-part-row-count-end : tie.Need-part-row-count-end
-part-row-count-end c = table-units _ _ _ (c .before .before .before .before .before .before .before .before .before .pre .0) (c .before .before .before .before .before .before .before .before .before .pre .1)
+enum-known-reply : tie.Need-enum-known-reply
+enum-known-reply c = search needs
 
-row-count-requires : tie.Need-row-count-requires
-row-count-requires c κs = search needs
+enum-told : tie.Need-enum-told
+enum-told c = search needs
 
-sub-plan-rows : tie.Need-sub-plan-rows
-sub-plan-rows c = search needs
+slice-aggregate-plan-contract : tie.Need-slice-aggregate-plan-contract
+slice-aggregate-plan-contract c = search needs
 
-part-plan-rows-start : tie.Need-part-plan-rows-start
-part-plan-rows-start c = search needs
+slice-aggregate-plan-contract-2 : tie.Need-slice-aggregate-plan-contract-2
+slice-aggregate-plan-contract-2 c = search needs
 
-part-plan-rows-end : tie.Need-part-plan-rows-end
-part-plan-rows-end c = table-units _ _ _ (c .before .before .before .before .before .before .before .before .before .before .before .before .pre .0) (c .before .before .before .before .before .before .before .before .before .before .before .before .pre .1)
+plan-contract-requires : tie.Need-plan-contract-requires
+plan-contract-requires c κs = let whole = found-whole Table (now (c .before .before .before .before .before .before .before .before .before .before .before .before .before .before .before .before .before .before .args .bytes)) (c .before .before .before .before .before .before .before .before .before .before .before .before .before .before .before .before .before .before .pre) 128 (omega arith) in (read-stands _ _ _ whole _ _ _ (c .before .before .before .before .before .before .before .before .before .before .read .ensures) (c .before .before .before .before .before .before .enum-told .given .1), found-form Table (now (c .before .before .before .before .before .before .before .before .before .before .before .before .before .before .before .before .before .before .args .bytes)) (c .before .before .before .before .before .before .before .before .before .before .before .before .before .before .before .before .before .before .pre) _ (read-accepted _ _ _ whole _ _ _ (c .before .before .before .before .before .before .before .before .before .before .read .ensures) (c .before .before .before .before .before .before .enum-told .given .1)))
 
-sub-plan-rows-2 : tie.Need-sub-plan-rows-2
-sub-plan-rows-2 c = search needs
-
-part-plan-rows-start-2 : tie.Need-part-plan-rows-start-2
-part-plan-rows-start-2 c = search needs
-
-part-plan-rows-end-2 : tie.Need-part-plan-rows-end-2
-part-plan-rows-end-2 c = table-costs _ _ _ (c .before .before .before .before .before .before .before .before .before .before .before .before .before .pre .0) (c .before .before .before .before .before .before .before .before .before .before .before .before .before .pre .1) (c .before .before .row-count .ensures)
-
-sub-plan-rows-3 : tie.Need-sub-plan-rows-3
-sub-plan-rows-3 c = search needs
-
-part-plan-rows-start-3 : tie.Need-part-plan-rows-start-3
-part-plan-rows-start-3 c = search needs
-
-part-plan-rows-end-3 : tie.Need-part-plan-rows-end-3
-part-plan-rows-end-3 c = table-values _ _ _ (c .before .before .before .before .before .before .before .before .before .before .before .before .before .before .pre .0) (c .before .before .before .before .before .before .before .before .before .before .before .before .before .before .pre .1) (c .before .before .before .row-count .ensures)
-
-plan-rows-requires : tie.Need-plan-rows-requires
-plan-rows-requires c κs = table-valid _ _ _ (c .before .before .before .before .before .before .before .before .before .before .before .before .before .before .before .before .before .before .before .pre .0) (c .before .before .before .before .before .before .before .before .before .before .before .before .before .before .before .before .before .before .before .pre .1) (c .before .before .before .before .before .before .before .before .row-count .ensures)
+returns : tie.Need-returns
+returns c = refused-plans _ (now (c .before .before .before .before .before .before .before .before .before .before .before .before .before .args .bytes)) _ _ (read-refused _ _ _ (found-whole Table (now (c .before .before .before .before .before .before .before .before .before .before .before .before .before .args .bytes)) (c .before .before .before .before .before .before .before .before .before .before .before .before .before .pre) 128 (omega arith)) _ _ _ (c .before .before .before .before .before .read .ensures) _ (c .before .reply .given .1))
 
 same-length : tie.Need-same-length
 same-length c = search needs
@@ -61,30 +48,24 @@ same-length-3 c = search needs
 same-length-4 : tie.Need-same-length-4
 same-length-4 c = search needs
 
-returns : tie.Need-returns
-returns c = rw (table-is _ _ _ (c .before .before .before .before .before .before .before .before .before .before .before .before .before .before .before .before .before .before .before .before .before .before .before .before .before .before .before .before .pre .0) (c .before .before .before .before .before .before .before .before .before .before .before .before .before .before .before .before .before .before .before .before .before .before .before .before .before .before .before .before .pre .1) (c .before .before .before .before .before .before .before .before .before .before .before .before .before .before .before .before .before .row-count .ensures)) (c .before .before .before .before .before .before .before .before .plan-rows .ensures)
+returns-2 : tie.Need-returns-2
+returns-2 c = accepted-plans _ (now (c .before .before .before .before .before .before .before .before .before .before .before .before .before .before .before .before .before .before .before .before .before .before .before .before .before .before .before .args .bytes)) _ _ _ _ (read-accepted _ _ _ (found-whole Table (now (c .before .before .before .before .before .before .before .before .before .before .before .before .before .before .before .before .before .before .before .before .before .before .before .before .before .before .before .args .bytes)) (c .before .before .before .before .before .before .before .before .before .before .before .before .before .before .before .before .before .before .before .before .before .before .before .before .before .before .before .pre) 128 (omega arith)) _ _ _ (c .before .before .before .before .before .before .before .before .before .before .before .before .before .before .before .before .before .before .before .read .ensures) (c .before .before .before .before .before .before .before .before .before .before .before .before .before .before .before .enum-told .given .1)) (c .before .before .before .before .before .before .before .before .plan-contract .ensures)
 
 pub plan-table-spec : {M : Type 1} → statement M
 plan-table-spec =
     tie.close
     (tie.spec
-    cast-n
-    sub-row-count
-    part-row-count-start
-    part-row-count-end
-    row-count-requires
-    sub-plan-rows
-    part-plan-rows-start
-    part-plan-rows-end
-    sub-plan-rows-2
-    part-plan-rows-start-2
-    part-plan-rows-end-2
-    sub-plan-rows-3
-    part-plan-rows-start-3
-    part-plan-rows-end-3
-    plan-rows-requires
+    slice-aggregate-read
+    slice-aggregate-read-2
+    read-requires
+    enum-known-reply
+    enum-told
+    slice-aggregate-plan-contract
+    slice-aggregate-plan-contract-2
+    plan-contract-requires
+    returns
     same-length
     same-length-2
     same-length-3
     same-length-4
-    returns)
+    returns-2)
