@@ -1,8 +1,7 @@
 -- From the answers along an order to the promise, for a ladder and for unit prices. Assumes nothing.
-use mathlib.Core.Path.{_≡_, refl, sym, _∙_}
+use mathlib.Core.Path.{_≡_, refl, _∙_}
 use mathlib.Core.Bool.{Bool, true, false}
 use mathlib.Core.List.{List, _++_}
-use mathlib.Core.Option.{some}
 use Prim.Native.Nat.{ℕ, _-_}
 use native.Mathlib.Omega.{arith}
 use lib.ListN.{length, replicate, take, drop}
@@ -15,11 +14,11 @@ use Rattle.contract.specs.declared.Form.the-variants.{UnitPrices}
 use Rattle.contract.specs.declared.Refusal.{Refusal}
 use Rattle.contract.specs.declared.Refusal.the-variants.{Short}
 use Rattle.exchange.specs.Deal.{Deal}
-use Rattle.exchange.specs.Choice.{choose}
+use Rattle.exchange.specs.Chosen.{IsChosen}
 use Rattle.exchange.specs.declared.Objective.{Objective}
 use Rattle.exchange.specs.declared.Planned as exchange
 use Rattle.exchange.specs.declared.Sides.{Sides}
-use Rattle.choice.specs.Promise.{numbered, answerTo, chosenFor}
+use Rattle.choice.specs.Promise.{numbered, NamesChosen, Chooses}
 use Rattle.choice.specs.declared.Chosen.{Chosen}
 use Rattle.line.specs.Promise as line
 use Rattle.line.specs.Segments.{dealAlong}
@@ -31,7 +30,7 @@ use Rattle.order.specs.Bytes.{picked}
 use Rattle.sizes.specs.Units.{unitsFew}
 use Rattle.sizes.proofs.UnitLaws.{units-few}
 use Rattle.planning.specs.Areas.{Areas, planAreas, hasRoom, roomFor}
-use Rattle.planning.specs.Deals.{contractWith, NoPlan}
+use Rattle.planning.specs.Deals.{contractWith}
 use Rattle.planning.specs.Found.{ladderOf}
 use Rattle.planning.specs.Promise.{PlansOf}
 use Rattle.planning.specs.declared.Planned.{Planned}
@@ -39,7 +38,7 @@ use Rattle.planning.proofs.LadderFound.{lies}
 use Rattle.planning.proofs.LadderPlan.{ladder-none, ladder-success}
 use Rattle.planning.proofs.NamedOrder as prices
 use Rattle.planning.proofs.Outcome.{room, short-said, room-said}
-use Rattle.planning.proofs.PricesPlan.{found-items, found-none, chosen-is, prices-none, prices-suit, prices-blocked, prices-success}
+use Rattle.planning.proofs.PricesPlan.{prices-none, prices-suit, prices-blocked, prices-success}
 use Rattle.planning.proofs.Records.{refused-plans, accepted-plans}
 use Rattle.along.specs.Code.{CanPlan, AlongAnswers, AlongSays, PlansFound}
 use Rattle.along.proofs.AnswerLaws.{line-steps, line-none, line-unfit, none-written}
@@ -112,38 +111,34 @@ module _ (s : Sides) (us cs vs : List ℕ) (v : Valid (contractWith UnitPrices s
   pricesOf = contractWith UnitPrices s us cs vs
 
   -- no order was found
-  prices-refused : (r : Chosen) → r ≡ answerTo (chosenFor s us cs vs) → r .found ≡ false → NoPlan pricesOf
-  prices-refused r e f = prices-none s us cs vs v (sym (chosen-is s us cs vs v) ∙ found-none (chosenFor s us cs vs) r e f)
-
   pub prices-impossible : (aim : Objective) (p q o : List ℕ) → roomFor pricesOf (planAreas p q o) ≡ true → (r : Chosen)
-      → r ≡ answerTo (chosenFor s us cs vs) → r .found ≡ false → PlansOf aim pricesOf Planned.Impossible (planAreas p q o) (planAreas p q o)
-  prices-impossible aim p q o h r e f = record { plans = room-said aim pricesOf (refused 9) _ _ h (refl, (prices-refused r e f, refl)) }
+      → Chooses s us cs vs r → r .found ≡ false → PlansOf aim pricesOf Planned.Impossible (planAreas p q o) (planAreas p q o)
+  prices-impossible aim p q o h r e f =
+      let none-chosen = (rw f at (e .answers)) .1 (prices.few-items s us cs vs v) in
+      record { plans = room-said aim pricesOf (refused 9) _ _ h (refl, (prices-none s us cs vs v none-chosen, refl)) }
 
   -- along the order that was found
-  module _ (r : Chosen) (e : r ≡ answerTo (chosenFor s us cs vs)) (f : r .found ≡ true)
+  module _ (r : Chosen) (e : Chooses s us cs vs r) (f : r .found ≡ true)
       (us′ cs′ vs′ : List ℕ) (eu : us′ ≡ picked us (r .order)) (ec : cs′ ≡ picked cs (r .order)) (ev : vs′ ≡ picked vs (r .order)) where
     abbrev segments : Deal
     segments = dealAlong s (take (length us - 0) us′) (take (length us - 0) cs′) (take (length us - 0) vs′)
 
-    -- the items, and that they were chosen
-    found : (items : List ℕ) × ((choose s us cs vs ≡ some items) × (r .order ≡ numbered items))
-    found = let (items, c, o) = found-items (chosenFor s us cs vs) r e f in (items, (sym (chosen-is s us cs vs v) ∙ c, o))
+    found : NamesChosen s us cs vs (r .order)
+    found = rw f at (e .answers)
 
     pub prices-can : (a : Areas) → roomFor pricesOf a ≡ true → CanPlan (take (length us - 0) us′) (take (length us - 0) cs′) (take (length us - 0) vs′) a
     prices-can a h =
-        let (items, (c, o)) = found in
         let z : length us - 0 ≡ length us = omega arith in
-        record { suit = rw (z, eu, ec, ev, o) (prices-suit s us cs vs v items c a h); eight = room _ _ a h .order }
+        record { suit = rw (z, eu, ec, ev, found .order-is) (prices-suit s us cs vs v (found .items) (found .chosen) a h); eight = room _ _ a h .order }
 
     pub prices-plans : (aim : Objective) (p q o p′ q′ o′ : List ℕ) → roomFor pricesOf (planAreas p q o) ≡ true → (x : Planned)
         → AlongSays aim segments (r .order) x (planAreas p q o) (planAreas p′ q′ o′)
         → PlansOf aim pricesOf x (planAreas p q o) (planAreas p′ q′ o′)
     prices-plans aim p q o p′ q′ o′ h x g =
-        let (items, (c, eo)) = found in
         let z : length us - 0 ≡ length us = omega arith in
-        go items c x (rw (z, eu, ec, ev, eo) at (g .says))
+        go (found .items) (found .chosen) x (rw (z, eu, ec, ev, found .order-is) at (g .says))
       where
-        go : (items : List ℕ) → choose s us cs vs ≡ some items → (x : Planned)
+        go : (items : List ℕ) → IsChosen s us cs vs items → (x : Planned)
             → AlongAnswers aim
             (dealAlong s (take (length us) (picked us (numbered items))) (take (length us) (picked cs (numbered items))) (take (length us) (picked vs (numbered items))))
             (numbered items) x (planAreas p q o) (planAreas p′ q′ o′)

@@ -12,7 +12,7 @@ use lib.ListN.{length, getD, set, take, drop, replicate, length-append, length-s
 use lib.Seq.{ext-getD, getD-set-same, getD-set-other, sets, getD-take, getD-drop, drop-append-add, drop-append-seam, sets-eq, drop-at, take-at, length-take-le, length-front, append-snoc, set-split, set-out, take-all, drop-length}
 use borrow.Rule.Slice.PartMut.{putMid, midOf, mid-len, post-is}
 use borrow.Author.Tests.{le-leb, lt-leb}
-use Rattle.area.specs.Entries.{num, digits, upTo, entries, remainder, numAt, putAt, column, Stored, Cleared}
+use Rattle.area.specs.Entries.{Bytes, num, digits, upTo, entries, remainder, numAt, putAt, column, Stored, Cleared}
 
 -- ---- upTo
 
@@ -81,17 +81,12 @@ pub num-append : (w : ℕ) (s t : List ℕ) (i : ℕ) → i + w ≤ length s →
 num-append w s t i h = num-ext w (s ++ t) s i i (λ k q. List·getD-append s t 0 (i + k) (omega arith))
 
 -- w bytes hold a number below 256 ^ w
-pub num-lt : (w : ℕ) (s : List ℕ) (i : ℕ) → ((k : ℕ) → getD s k 0 < 256) → num w s i < 256 ^ w
-unfolding num
-num-lt zero s i b = omega arith
-num-lt (suc w) s i b = omega (arith, b i, num-lt w s (i + 1) b)
-
 pub digits-length : (w v : ℕ) → length (digits w v) ≡ w
 unfolding digits
 digits-length zero v = refl
 digits-length (suc w) v = ap suc (digits-length w (v / 256))
 
-pub digits-byte : (w v k : ℕ) → getD (digits w v) k 0 < 256
+pub digits-byte : (w v : ℕ) → Bytes (digits w v)
 unfolding digits
 digits-byte zero v k = omega arith
 digits-byte (suc w) v zero = omega arith

@@ -2,13 +2,12 @@
 pub mod AllFacts
 pub mod Read
 -- how planning can end: of every record, along one order, and over the rows of a table
-pub mod OrderBytes
 pub mod Planning
 pub mod Tests
 pub mod OneOrder
 pub mod Ladders
-pub mod TwoItems
-pub mod TableSteps
+pub mod Prices
+pub mod Tables
 -- how a brought plan can go
 pub mod BroughtPlans
 -- the theorem

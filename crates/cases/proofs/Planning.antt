@@ -1,33 +1,34 @@
 -- How planning can end, by what its record says. Assumes nothing.
-use mathlib.Core.Path.{_≡_, refl}
+use mathlib.Core.Path.{_≡_, refl, ap, _∙_, subst}
 use mathlib.Core.List.{List}
 use Prim.Native.Nat.{ℕ, _*_, _≤_}
 use native.Mathlib.Omega.{arith}
 use lib.ListN.{length}
+use lib.Seq.{take-all}
 use Rattle.contract.specs.Res.{Res, refused, ok}
 use Rattle.contract.specs.Contract.{Contract}
 use Rattle.contract.specs.Parse.{parse}
-use Rattle.contract.specs.declared.Form.{Form}
+use Rattle.contract.specs.Valid.{Valid}
 use Rattle.contract.proofs.ParsedValid.{parsed-valid}
-use Rattle.exchange.specs.Deal.{Deal, State}
-use Rattle.planning.specs.Deals.{NoPlan}
+use Rattle.exchange.specs.Deal.{State}
+use Rattle.exchange.specs.Chosen.{together}
+use Rattle.exchange.specs.PlanIn.{planIn}
+use Rattle.exchange.specs.declared.Objective.{Objective}
+use Rattle.planning.specs.Deals.{dealOf, NoPlan}
 use Rattle.planning.specs.Areas.{Areas, Roomy}
-use Rattle.planning.specs.Order.{orderIn}
+use Rattle.planning.specs.Order.{orderIn, dealBy}
 use Rattle.planning.specs.Promise.{ahead, Ours, Plans, Success}
+use Rattle.planning.proofs.SameOutcome.{claimed-same}
+use Rattle.planning.proofs.OrderBytes.{order-of, order-same}
 use Rattle.planning.proofs.Outcome.{room}
 use Rattle.planning.proofs.Room.{roomy-ahead}
-use Rattle.cases.specs.Case.{noPlan, PlanningEnds}
+use Rattle.cases.specs.Case.{plan, noPlan, PlanningEnds, Gives, Claimed}
 use Rattle.cases.proofs.AllFacts.{Right}
-use Rattle.cases.proofs.OrderBytes.{order-of}
 
 -- planning repeats the refusal of its record
 pub record-refused : (bytes : List ℕ) (e : ℕ) → parse bytes ≡ refused e → Right bytes (refused e) (noPlan e)
 unfolding ahead
 record-refused bytes e read = record { claim = tt; only = λ before after answer r p. (rw read at p) .0 }
-
--- all our plans of a deal have equally many steps
-pub same-count : (f : Form) (d : Deal) (n m : ℕ) (xs ys : List State) → Ours f d n xs → Ours f d m ys → n ≡ m
-same-count f d n m xs ys a b = omega (arith, a .least ys (b .plan), b .least xs (a .plan), a .steps, b .steps)
 
 module _ (bytes : List ℕ) (k : Contract) (read : parse bytes ≡ ok k) where
   -- planning of a contract finds that no plan exists, or plans
@@ -52,3 +53,31 @@ module _ (bytes : List ℕ) (k : Contract) (read : parse bytes ≡ ok k) where
             let order = order-of k (parsed-valid bytes k read) (after .order) long (s .order) in
             absurd (none (orderIn k (after .order)) order _ (s .ours .plan)));
       }
+
+  -- what it claims of an order and of the steps along it, it gives, and nothing else
+  module _ (order : List ℕ) (eight : length order ≡ 8) (xs : List State) (c : Claimed k order xs) where
+    valid : Valid k
+    valid = parsed-valid bytes k read
+
+    gives : (n : ℕ) (before after : Areas) → 8 ≤ length (after .order) → Success k n before after → Gives order xs (ok n) after
+    unfolding orderIn
+    gives n before after long s =
+        let (items, front) = order-same k valid (after .order) order long (omega arith) (s .order) (c .named) (s .chosen) (c .chosen) in
+        let e : orderIn k (after .order) ≡ orderIn k order = ap (together (k .units)) items in
+        let ours = subst (λ σ. Ours (k .form) (dealOf k σ) n (planIn n (after .places) (after .sums))) e (s .ours) in
+        let (count, entries) = claimed-same (dealBy k order) n _ _ xs Objective.Steps (k .form) ours (c .ours) in
+        record {
+          count = ap ok count;
+          plan = subst (λ m. planIn m (after .places) (after .sums) ≡ xs) count entries;
+          named = front ∙ take-all 8 order (omega arith);
+        }
+
+    pub claimed-given : Right bytes (ok k) (plan order xs)
+    claimed-given =
+        record {
+          claim = c;
+          only =
+              planning-ends _
+              (λ none after. absurd (none (orderIn k order) (order-of k valid order (omega arith) (c .named)) xs (c .ours .plan)))
+              gives;
+        }

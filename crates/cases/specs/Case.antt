@@ -16,7 +16,7 @@ use Rattle.planning.specs.Bounds.{boundsOf}
 use Rattle.planning.specs.Check.{holdsCount, aheadOfCheck}
 use Rattle.planning.specs.Check as check
 use Rattle.planning.specs.Deals.{NoPlan}
-use Rattle.planning.specs.Order.{namesOrder, dealBy}
+use Rattle.planning.specs.Order.{namesOrder, dealBy, NamesChosen}
 use Rattle.planning.specs.Promise.{ahead, Ours, Plans}
 use Rattle.session.specs.Opening.{Opens}
 use Rattle.session.specs.Session.{reportIn, replied, Reports}
@@ -30,12 +30,11 @@ pub record Report : Type 0 where
   pub number : ℕ
   pub reply : Res (Unit {0})
 
--- a question to a record, with its answer: the lower and the upper bound of a place; a plan with its order bytes; the number of steps where
--- the plan is open; the number of planning's refusal; a brought plan with the number of its refusal; a session on a brought plan
+-- a question to a record, with its answer: the lower and the upper bound of a place; a plan with its order bytes; the number of planning's
+-- refusal; a brought plan with the number of its refusal; a session on a brought plan
 pub data Question : Type 0 where
   bounds : ℕ → ℤ → ℤ → Question
   plan : List ℕ → List State → Question
-  steps : ℕ → Question
   noPlan : ℕ → Question
   unsafe : List State → ℕ → Question
   session : List State → List Report → Question
@@ -76,7 +75,6 @@ pub record Runs (count : ℕ) (places sums : List ℕ) (answer : Res (Unit {0}))
 abbrev pub Answered : List ℕ → Question → Type 0
 Answered bytes (bounds x low high) = boundsOf bytes x noOrder ≡ ok (record { lower = low; upper = high })
 Answered bytes (plan order xs) = PlanningEnds bytes (Gives order xs)
-Answered bytes (steps n) = PlanningEnds bytes (λ answer after. answer ≡ ok n)
 Answered bytes (noPlan e) = PlanningEnds bytes (λ answer after. answer ≡ refused e)
 Answered bytes (unsafe xs e) =
     (places sums : List ℕ) (answer : Res (Unit {0})) → Brought xs places sums
@@ -89,19 +87,13 @@ Answered bytes (session xs reports) =
 -- what planning claims of an order and of the steps along it
 pub record Claimed (k : Contract) (order : List ℕ) (xs : List State) : Type 0 where
   pub named : namesOrder k order ≡ true
+  pub chosen : NamesChosen k order
   pub ours : Ours (k .form) (dealBy k order) (length xs) xs
-
--- planning claims so many steps, whichever they are
-pub record ClaimedCount (k : Contract) (n : ℕ) : Type 0 where
-  pub plan : List State
-  pub count : length plan ≡ n
-  pub claimed : Claimed k noOrder plan
 
 -- what the answer to a question claims of the contract is so; so the promises do not allow it in vain
 abbrev pub Claim : Contract → Question → Type 0
 Claim k (bounds x low high) = Unit {0}
 Claim k (plan order xs) = Claimed k order xs
-Claim k (steps n) = ClaimedCount k n
 Claim k (noPlan e) = NoPlan k
 Claim k (unsafe xs e) = check.SafeAlong k noOrder xs → ⊥
 Claim k (session xs reports) = check.SafeAlong k noOrder xs

@@ -1,4 +1,5 @@
--- The paper's cases A to K, and what they do not touch: more questions to the records of A and F, and a case L.
+-- The paper's cases A to K, and what they do not touch: more questions to the records of A and F, the cases L and M, and the published stock
+-- figure.
 use mathlib.Core.List.{List, [], _∷_, _++_}
 use Prim.Native.Nat.{ℕ}
 use lib.IntN.{pos, negℤ}
@@ -8,7 +9,7 @@ use Rattle.contract.specs.Contract.{Contract}
 use Rattle.contract.specs.declared.Form.the-variants.{Ladder, UnitPrices, Table}
 use Rattle.exchange.specs.Deal.{State}
 use Rattle.session.specs.declared.Side.the-variants.{Delivery, Payment}
-use Rattle.cases.specs.Case.{Report, bounds, plan, steps, noPlan, unsafe, session, noOrder, Case}
+use Rattle.cases.specs.Case.{Report, bounds, plan, noPlan, unsafe, session, noOrder, Case}
 
 -- a state after a step
 abbrev pub at : ℕ → ℕ → State
@@ -85,6 +86,48 @@ blankOf =
       values = 0 ∷ 0 ∷ 0 ∷ 7 ∷ [];
     }
 
+-- case M's record: the map, P 13, cs 1, cd 1, four items; each with its units, cost and value
+abbrev pub fourBytes : List ℕ
+fourBytes =
+    23 ∷ 0 ∷ 13 ∷ 0 ∷ 0 ∷ 0 ∷ 1 ∷ 0 ∷ 0 ∷ 0 ∷ 1 ∷ 0 ∷ 0 ∷ 0 ∷ 4
+    ∷ 3 ∷ 2 ∷ 0 ∷ 0 ∷ 0 ∷ 1 ∷ 0 ∷ 0 ∷ 0 ∷ 1 ∷ 3 ∷ 0 ∷ 0 ∷ 0 ∷ 1 ∷ 0 ∷ 0 ∷ 0
+    ∷ 3 ∷ 1 ∷ 0 ∷ 0 ∷ 0 ∷ 2 ∷ 0 ∷ 0 ∷ 0 ∷ 1 ∷ 1 ∷ 0 ∷ 0 ∷ 0 ∷ 3 ∷ 0 ∷ 0 ∷ 0 ∷ []
+
+-- what it says. By whole segments item 1 would come before item 2, and item 3 after item 4
+abbrev pub fourOf : Contract
+fourOf =
+    record {
+      price = 13;
+      supplier = 1;
+      buyer = 1;
+      form = UnitPrices;
+      units = 3 ∷ 1 ∷ 3 ∷ 1 ∷ [];
+      costs = 2 ∷ 3 ∷ 1 ∷ 1 ∷ [];
+      values = 1 ∷ 1 ∷ 2 ∷ 3 ∷ [];
+    }
+
+-- the record of the published stock figure, amounts in cents: the map, P, cs, cd, five items; each with its units, cost and value
+abbrev pub stockBytes : List ℕ
+stockBytes =
+    23 ∷ 0 ∷ 92 ∷ 119 ∷ 39 ∷ 0 ∷ 160 ∷ 134 ∷ 1 ∷ 0 ∷ 240 ∷ 73 ∷ 2 ∷ 0 ∷ 5
+    ∷ 60 ∷ 121 ∷ 35 ∷ 0 ∷ 0 ∷ 72 ∷ 38 ∷ 0 ∷ 0 ∷ 30 ∷ 23 ∷ 40 ∷ 0 ∷ 0 ∷ 238 ∷ 42 ∷ 0 ∷ 0
+    ∷ 10 ∷ 85 ∷ 16 ∷ 0 ∷ 0 ∷ 154 ∷ 16 ∷ 0 ∷ 0 ∷ 100 ∷ 249 ∷ 46 ∷ 0 ∷ 0 ∷ 181 ∷ 49 ∷ 0 ∷ 0
+    ∷ 40 ∷ 62 ∷ 33 ∷ 0 ∷ 0 ∷ 140 ∷ 34 ∷ 0 ∷ 0 ∷ []
+
+-- what it says: MSFT, HWP, DELL, EBAY, PG. The figure ends with HWP, whose unit has the greatest value less cost; by whole segments, as the
+-- published algorithm compares, EBAY would be last
+abbrev pub stockOf : Contract
+stockOf =
+    record {
+      price = 2_586_460;
+      supplier = 100_000;
+      buyer = 150_000;
+      form = UnitPrices;
+      units = 60 ∷ 30 ∷ 10 ∷ 100 ∷ 40 ∷ [];
+      costs = 9_081 ∷ 10_263 ∷ 4_181 ∷ 12_025 ∷ 8_510 ∷ [];
+      values = 9_800 ∷ 10_990 ∷ 4_250 ∷ 12_725 ∷ 8_844 ∷ [];
+    }
+
 -- ---- plans and reports
 
 -- case A's plan
@@ -98,6 +141,21 @@ reportsI =
     ∷ record { side = Delivery; number = 2; reply = refused 10 }
     ∷ record { side = Delivery; number = 1; reply = ok tt }
     ∷ []
+
+-- case F's plan
+abbrev pub planF : List State
+planF = at 1 5 ∷ at 1 10 ∷ at 4 10 ∷ at 4 22 ∷ at 9 22 ∷ []
+
+-- case M's plan
+abbrev pub planM : List State
+planM = at 1 1 ∷ at 2 4 ∷ at 4 6 ∷ at 5 10 ∷ at 7 11 ∷ at 7 13 ∷ at 8 13 ∷ []
+
+-- the stock figure's plan
+abbrev pub planStock : List State
+planStock =
+    at 22 249_000 ∷ at 50 392_930 ∷ at 61 631_210 ∷ at 80 763_485 ∷ at 90 991_960 ∷ at 108 1_112_210 ∷ at 118 1_328_660
+    ∷ at 135 1_448_910 ∷ at 144 1_653_335 ∷ at 163 1_761_560 ∷ at 174 1_951_763 ∷ at 194 2_051_654 ∷ at 204 2_233_274
+    ∷ at 221 2_324_084 ∷ at 229 2_491_463 ∷ at 240 2_573_567 ∷ at 240 2_586_460 ∷ []
 
 -- the plan that the published method prints for its table 3
 abbrev pub printedPlan : List State
@@ -153,7 +211,7 @@ cases =
       bytes = tableBytes;
       says = ok tableOf;
       questions =
-          steps 5
+          plan noOrder planF
           ∷ session printedPlan reportsF
           ∷ unsafe (at 2 5 ∷ at 5 14 ∷ at 7 15 ∷ at 8 21 ∷ at 9 22 ∷ []) 12
           ∷ unsafe (at 10 0 ∷ printedPlan) 12
@@ -171,5 +229,9 @@ cases =
     ∷ record { bytes = take 31 (ladderBytes 10 3); says = refused 1; questions = noPlan 1 ∷ [] }
     ∷ record { bytes = ladderBytes 10 3 ++ (0 ∷ []); says = refused 7; questions = noPlan 7 ∷ [] }
     -- L
-    ∷ record { bytes = blankBytes; says = ok blankOf; questions = bounds 0 (negℤ (pos 2)) (pos 2) ∷ steps 3 ∷ [] }
+    ∷ record { bytes = blankBytes; says = ok blankOf; questions = bounds 0 (negℤ (pos 2)) (pos 2) ∷ plan noOrder (at 1 2 ∷ at 1 6 ∷ at 3 6 ∷ []) ∷ [] }
+    -- M
+    ∷ record { bytes = fourBytes; says = ok fourOf; questions = plan (2 ∷ 1 ∷ 3 ∷ 4 ∷ 0 ∷ 0 ∷ 0 ∷ 0 ∷ []) planM ∷ [] }
+    -- the stock figure
+    ∷ record { bytes = stockBytes; says = ok stockOf; questions = plan (3 ∷ 5 ∷ 4 ∷ 1 ∷ 2 ∷ 0 ∷ 0 ∷ 0 ∷ []) planStock ∷ [] }
     ∷ []

@@ -11,7 +11,8 @@ use lib.ListN.{getD}
 use borrow.Author.Tests.{leb-true, leb-false, ltb-true, ltb-false, le-leb, lt-leb, lt-ltb, le-ltb}
 use mir.Val.{boolByte}
 use Rattle.exchange.specs.Forms.{occurs}
-use Rattle.exchange.specs.Choice.{End, at, sumOver, allItems, fits, better, best}
+use Rattle.exchange.specs.Chosen.{at}
+use Rattle.exchange.specs.Choice.{End, sumOver, allItems, fits, better, best}
 use Rattle.choice.specs.Ends.{placedFrom, leftOf}
 
 -- a number of units and an amount

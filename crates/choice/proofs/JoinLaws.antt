@@ -2,14 +2,17 @@
 use mathlib.Core.Path.{_≡_, refl}
 use mathlib.Core.Bool.{true, false}
 use mathlib.Core.List.{List, [], _∷_, _++_, reverse, reverse-cons, map, append-nil, append-assoc}
+use mathlib.Core.Option.{none, some}
 use Prim.Native.Nat.{ℕ, zero, suc, _+_, _-_, _≤_, _<_}
 use native.Mathlib.Omega.{arith}
 use lib.ListN.{length, getD, set, drop, replicate, length-append, length-reverse, length-drop, drop-of-length-le}
 use lib.Seq.{drop-cons}
-use borrow.Author.Tests.{le-leb, lt-leb, eq-eqb, ne-eqb}
-use Rattle.exchange.specs.Choice.{at, sumOver, allItems, placed, front, back, bothEnds, choose}
+use borrow.Author.Tests.{eq-eqb, ne-eqb}
+use Rattle.exchange.specs.Chosen.{at}
+use Rattle.exchange.specs.Choice.{sumOver, allItems, placed, front, back, bothEnds, choose}
 use Rattle.exchange.specs.declared.Sides.{Sides}
-use Rattle.choice.specs.Promise.{numbered, answerTo, chosenFor}
+use Rattle.exchange.proofs.Choice.ChosenLaws.{choose-is-chosen, choose-none}
+use Rattle.choice.specs.Promise.{numbered, Answers}
 use Rattle.choice.specs.Ends.{endOf, Holds}
 use Rattle.choice.proofs.PlaceLaws.{push}
 
@@ -61,9 +64,8 @@ module _ (f b items back : List ℕ) (count more : ℕ) (hf : Holds f items coun
 
 -- what is answered for both ends
 module _ (p : Sides) (units costs values : List ℕ) where
-  pub too-many : 8 < length units → record { found = false; order = replicate 8 0 } ≡ answerTo (chosenFor p units costs values)
-  unfolding chosenFor
-  too-many h = rw (lt-leb (length units) 8 h)
+  pub too-many : 8 < length units → Answers p units costs values false (replicate 8 0)
+  too-many h = (refl, λ few items c. absurd (omega arith))
 
   -- the items of each end
   abbrev fronts : List ℕ
@@ -72,7 +74,7 @@ module _ (p : Sides) (units costs values : List ℕ) where
   abbrev backs : List ℕ
   backs = placed (back p units costs values) (length units)
 
-  module _ {fi bi : List ℕ} {count more worth spent : ℕ} (few : length units ≤ 8)
+  module _ {fi bi : List ℕ} {count more worth spent : ℕ}
       (ew : worth ≡ sumOver units (at values) (allItems (length units)))
       (es : spent ≡ sumOver units (at costs) (allItems (length units)))
       (hf : Holds (placed (endOf true units values costs (worth + (p .supplier + p .buyer)) spent) (length units)) fi count)
@@ -85,19 +87,22 @@ module _ (p : Sides) (units costs values : List ℕ) where
       unfolding bothEnds
       length-both = omega (arith, length-append fronts (reverse backs), length-reverse backs, holds-front .counts)
 
-      pub not-all : (count + more ≡ length units → ⊥) → record { found = false; order = replicate 8 0 } ≡ answerTo (chosenFor p units costs values)
-      unfolding chosenFor choose
+      pub not-all : (count + more ≡ length units → ⊥) → Answers p units costs values false (replicate 8 0)
+      unfolding choose
       not-all n =
-          rw
-          (le-leb (length units) 8 few, ne-eqb (length (bothEnds p units costs values)) (length units) (λ e. n (omega (arith, length-both))))
+          let none-given : choose p units costs values ≡ none =
+          rw (ne-eqb (length (bothEnds p units costs values)) (length units) (λ e. n (omega (arith, length-both)))) in
+          (refl, λ few. choose-none p units costs values none-given)
 
       pub all : {order : List ℕ} → count + more ≡ length units
           → ((f b : List ℕ) → Holds f fi count → Holds b bi more → order ≡ numbered (f ++ reverse b))
-          → record { found = true; order = order } ≡ answerTo (chosenFor p units costs values)
-      unfolding chosenFor choose bothEnds
+          → Answers p units costs values true order
+      unfolding choose bothEnds
       all e joined =
-          rw (
-            le-leb (length units) 8 few,
-            eq-eqb (length (bothEnds p units costs values)) (length units) (omega (arith, length-both)),
-            joined fronts backs holds-front hb,
-          )
+          let given : choose p units costs values ≡ some (bothEnds p units costs values) =
+          rw (eq-eqb (length (bothEnds p units costs values)) (length units) (omega (arith, length-both))) in
+          record {
+            items = bothEnds p units costs values;
+            chosen = choose-is-chosen p units costs values (bothEnds p units costs values) given;
+            order-is = joined fronts backs holds-front hb;
+          }

@@ -13,7 +13,8 @@ use lib.ListN.{length, getD, set, replicate, length-set, length-append, length-m
 use lib.Seq.{getD-set-same, getD-set-other, set-at}
 use borrow.Author.Tests.{eq-eqb, ne-eqb, lt-ltb, le-ltb}
 use Rattle.exchange.specs.Forms.{occurs}
-use Rattle.exchange.specs.Choice.{End, at, sumOver, best, placed}
+use Rattle.exchange.specs.Chosen.{at}
+use Rattle.exchange.specs.Choice.{End, sumOver, best, placed}
 use Rattle.exchange.proofs.Choice.Sums.{occurs-append}
 use Rattle.choice.specs.Promise.{numbered}
 use Rattle.choice.specs.Ends.{leftOf, Holds}

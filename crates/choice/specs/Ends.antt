@@ -5,7 +5,8 @@ use mathlib.Core.List.{List, []}
 use Prim.Native.Nat.{ℕ, _≤_}
 use lib.Dec.{leb}
 use lib.ListN.{length, getD}
-use Rattle.exchange.specs.Choice.{End, at, fits, better}
+use Rattle.exchange.specs.Chosen.{at}
+use Rattle.exchange.specs.Choice.{End, fits, better}
 use Rattle.choice.specs.Promise.{numbered}
 
 -- whether an item is placed from the front or else from the back: from the front if a unit gives at least what it needs, from the back

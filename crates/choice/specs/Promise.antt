@@ -1,11 +1,10 @@
 -- What choosing an order for unit prices promises.
-use mathlib.Core.Bool.{true, false, cond}
+use mathlib.Core.Path.{_≡_}
+use mathlib.Core.Bool.{Bool, true, false}
 use mathlib.Core.List.{List, _++_, map}
-use mathlib.Core.Option.{Option, none, some}
-use Prim.Native.Nat.{ℕ, suc, _-_}
-use lib.Dec.{leb}
+use Prim.Native.Nat.{ℕ, suc, _-_, _≤_}
 use lib.ListN.{length, replicate}
-use Rattle.exchange.specs.Choice.{choose}
+use Rattle.exchange.specs.Chosen.{IsChosen}
 use Rattle.exchange.specs.declared.Sides.{Sides}
 use Rattle.choice.specs.declared.Chosen.{Chosen}
 
@@ -13,11 +12,18 @@ use Rattle.choice.specs.declared.Chosen.{Chosen}
 abbrev pub numbered : List ℕ → List ℕ
 numbered l = map suc l ++ replicate (8 - length l) 0
 
--- the answer for an order: its order bytes; all zero where there is none
-abbrev pub answerTo : Option (List ℕ) → Chosen
-answerTo none = record { found = false; order = replicate 8 0 }
-answerTo (some items) = record { found = true; order = numbered items }
+-- order bytes that name the items in the chosen order
+pub record NamesChosen (p : Sides) (units costs values order : List ℕ) : Type 0 where
+  pub items : List ℕ
+  pub chosen : IsChosen p units costs values items
+  pub order-is : order ≡ numbered items
 
--- the order that is chosen for at most eight items, and none for more
-unfoldable pub chosenFor : Sides → List ℕ → List ℕ → List ℕ → Option (List ℕ)
-chosenFor p units costs values = cond (leb (length units) 8) (choose p units costs values) none
+-- by whether an order is found: the bytes name it; else there is none, or there are more than eight items, and the bytes are zero
+abbrev pub Answers : Sides → List ℕ → List ℕ → List ℕ → Bool → List ℕ → Type 0
+Answers p units costs values true order = NamesChosen p units costs values order
+Answers p units costs values false order =
+    (order ≡ replicate 8 0) × (length units ≤ 8 → (items : List ℕ) → IsChosen p units costs values items → ⊥)
+
+-- the promise of choosing
+pub record Chooses (p : Sides) (units costs values : List ℕ) (r : Chosen) : Type 0 where
+  pub answers : Answers p units costs values (r .found) (r .order)

@@ -3,8 +3,9 @@ ghost use mathlib.Core.Path.{_≡_};
 ghost use mathlib.Core.List.{List, [], _++_, reverse};
 ghost use Prim.Native.Nat.{ℕ, _+_, _*_, _^_, _≤_, _<_};
 ghost use lib.ListN.{length};
-ghost use Rattle.exchange.specs.Choice.{at, sumOver, allItems, best, placed};
-ghost use Rattle.choice.specs.Promise.{numbered, answerTo, chosenFor};
+ghost use Rattle.exchange.specs.Chosen.{at};
+ghost use Rattle.exchange.specs.Choice.{sumOver, allItems, best, placed};
+ghost use Rattle.choice.specs.Promise.{numbered, Chooses};
 ghost use Rattle.choice.specs.Ends.{placedFrom, endOf, leftOf, takesOver, Holds};
 
 // The amount of a unit of item j.
@@ -171,7 +172,7 @@ pub struct Chosen {
 // from the front, the others from the back, each time the best of those that the slack allows. For more than eight items none is found.
 // The price has no part in it.
 pub fn choose(supplier: u32, buyer: u32, units: &[u16], costs: &[u32], values: &[u32]) -> Chosen
-    ensures { λ r. ⌜ ((price : ℕ) → r ≡ answerTo (chosenFor (record { price = price; supplier = supplier; buyer = buyer }) (now (units .entry)) (now (costs .entry)) (now (values .entry)))) ⌝ }
+    ensures { λ r. ⌜ ((price : ℕ) → Chooses (record { price = price; supplier = supplier; buyer = buyer }) (now (units .entry)) (now (costs .entry)) (now (values .entry)) r) ⌝ }
 {
     if 8 < units.len() {
         return Chosen {

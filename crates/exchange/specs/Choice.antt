@@ -1,27 +1,14 @@
--- Which order is chosen for unit prices: the items, counted from 0, each with all its units together.
+-- The choice of the order for unit prices in the working form, by running sums instead of bounds. Nothing here has to be believed: its laws say
+-- that it gives the order of Chosen, and no other.
 use mathlib.Core.Bool.{Bool, not, cond, _&&_, _||_}
 use mathlib.Core.List.{List, [], _∷_, _++_, reverse}
 use mathlib.Core.Option.{Option, none, some}
 use Prim.Native.Nat.{ℕ, zero, suc, _+_, _*_}
 use lib.Dec.{leb, ltb, eqb}
-use lib.IntN.{ℤ, _-ℤ_}
-use lib.ListN.{length, getD, replicate}
-use Rattle.exchange.specs.Deal.{Deal}
+use lib.ListN.{length}
 use Rattle.exchange.specs.Forms.{occurs}
+use Rattle.exchange.specs.Chosen.{at}
 use Rattle.exchange.specs.declared.Sides.{Sides}
-
--- the slack of a place: its upper bound less its lower one
-abbrev pub slack : Deal → ℕ → ℤ
-slack d x = d .upper x -ℤ d .lower x
-
--- the entry of item j
-abbrev pub at : List ℕ → ℕ → ℕ
-at l j = getD l j 0
-
--- the units of the items of a list, one item after the other
-unfoldable pub together : List ℕ → List ℕ → List ℕ
-together units [] = []
-together units (j ∷ items) = replicate (at units j) j ++ together units items
 
 -- the sum of w over all units of the items of a list
 unfoldable pub sumOver : List ℕ → (ℕ → ℕ) → List ℕ → ℕ
@@ -69,12 +56,11 @@ placed e (suc k) =
     let j = best e done (length (e .units)) in
     cond (ltb j (length (e .units))) (done ++ (j ∷ [])) done
 
--- W2: "items whose unit cost is at least the unit value come first"
+-- item j is placed from the first place on
 abbrev pub comesFirst : List ℕ → List ℕ → ℕ → Bool
 comesFirst costs values j = leb (at values j) (at costs j)
 
--- from the first place on, W2: "again and again the one with the greatest cost less value of a unit, among those whose unit value is at most
--- upper less lower there". The slack of place 0 is vd(L) + cs + cd − vs(L)
+-- the first place: its slack is vd(L) + cs + cd − vs(L). A unit needs its value and gives back its cost
 abbrev pub front : Sides → List ℕ → List ℕ → List ℕ → End
 front p units costs values =
     record {
@@ -86,8 +72,7 @@ front p units costs values =
       taken = sumOver units (at costs) (allItems (length units));
     }
 
--- W2: "The others fill the places from the last backwards: the greatest value less cost of a unit, among those whose unit cost is at most upper
--- less lower after it". The slack of the last place is cs + cd
+-- the last place: its slack is cs + cd. Backwards, a unit needs its cost and gives back its value
 abbrev pub back : Sides → List ℕ → List ℕ → List ℕ → End
 back p units costs values =
     record {

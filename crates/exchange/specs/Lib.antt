@@ -5,7 +5,7 @@ pub mod Forms
 pub mod Rule
 pub mod Arrival
 pub mod Possible
-pub mod Choice
+pub mod Chosen
 pub mod Fewest
 pub mod Objectives
 pub mod Test
@@ -13,4 +13,5 @@ pub mod PlanIn
 pub mod Named
 -- the working form of the theory
 pub mod Work
+pub mod Choice
 pub mod Search

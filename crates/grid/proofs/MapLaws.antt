@@ -12,6 +12,7 @@ use lib.ListN.{length, getD, take, List·getD-eq-default}
 use lib.Seq.{getD-take}
 use lib.Count.{ones, ones-step}
 use lib.Pow.{pow-pos, pow-mono, shl-exact}
+use Rattle.area.specs.Entries.{Bytes}
 use Rattle.grid.specs.Map.{bitAt, stands, bitsFrom, bitCount, standing, mapSize}
 
 -- past the end of a map no bit stands
@@ -53,10 +54,6 @@ standing-le map zero = omega arith
 standing-le map (suc n) = omega (arith, standing-le map n, bit-le map n)
 
 -- ---- the bits counted row by row and byte by byte
-
--- every byte is below 256
-abbrev pub Bytes : List ℕ → Type 0
-Bytes map = (i : ℕ) → getD map i 0 < 256
 
 -- a byte's eight rows, and its eight digits
 eight : (b : ℕ) (map : List ℕ) → standing (b ∷ map) 8 ≡ b % 2 + b / 2 % 2 + b / 4 % 2 + b / 8 % 2 + b / 16 % 2 + b / 32 % 2 + b / 64 % 2 + b / 128 % 2

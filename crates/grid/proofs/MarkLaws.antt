@@ -12,12 +12,12 @@ use lib.Dec.{eqb}
 use lib.ListN.{length, getD, take, List·getD-eq-default}
 use lib.Pow.{pow-pos}
 use lib.Seq.{set-out}
-use Rattle.area.specs.Entries.{upTo}
+use Rattle.area.specs.Entries.{Bytes, upTo}
 use Rattle.area.proofs.Laws.{upTo-length, upTo-at, upTo-ext, upTo-set, upTo-take}
 use Rattle.grid.specs.Rows.{largestBelow}
 use Rattle.grid.specs.Map.{bitAt, bitsFrom, marked, packed}
 use Rattle.grid.specs.Cells.{given, rowMap}
-use Rattle.grid.proofs.MapLaws.{Bytes, none-past}
+use Rattle.grid.proofs.MapLaws.{none-past}
 
 -- ---- a byte of bits
 

@@ -37,6 +37,7 @@ module _ (s : Sides) (cs vs : List ℕ) where
         long = room _ _ a e .order;
         order-is = o;
         names = refl;
+        goes = tt;
         laid = line-laid Ladder (ladder s cs vs) (ladder-rising s cs vs) (λ x y. refl) (λ xs b. b) aim n _ _ _ _ h;
         work-is = w;
       })

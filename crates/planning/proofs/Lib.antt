@@ -17,3 +17,8 @@ pub mod TablePlan
 pub mod Records
 -- our plan beside one that is brought
 pub mod Rivals
+-- nothing is left free
+pub mod OrderBytes
+pub mod SameOutcome
+pub mod SomeOutcome
+pub mod OneAnswer

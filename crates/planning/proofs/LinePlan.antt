@@ -52,7 +52,7 @@ module _ (f : Form) (d : Deal) (r : Rising d) (counts : (a b : ℕ) → d .holds
           least = l .least;
         }
 
-    claimed : (aim : Objective) → PlanFor aim d xs → Claimed aim f d n xs
+    pub claimed : (aim : Objective) → PlanFor aim d xs → Claimed aim f d n xs
     claimed Objective.Steps v = rule-claimed v
     claimed Objective.Payments v = for-claimed Objective.Payments v
     claimed Objective.Deliveries v = for-claimed Objective.Deliveries v

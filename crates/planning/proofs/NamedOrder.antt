@@ -12,7 +12,7 @@ use Rattle.contract.specs.Contract.{limit}
 use Rattle.contract.specs.Valid.{Valid, inRange, unitsInRange, withinLimit, amountsWithin, total, sum}
 use Rattle.contract.specs.declared.Form.the-variants.{UnitPrices}
 use Rattle.exchange.specs.Forms.{inOrder, Order}
-use Rattle.exchange.specs.Choice.{at, together}
+use Rattle.exchange.specs.Chosen.{at, together}
 use Rattle.exchange.specs.Named.{eachOnce}
 use Rattle.exchange.specs.declared.Sides.{Sides}
 use Rattle.exchange.proofs.Choice.Deal.{last-is}
@@ -50,7 +50,7 @@ module _ (s : Sides) (us cs vs : List ℕ) (v : Valid (contractWith UnitPrices s
   unfolding inRange
   units-in-range = let ((_, each), _) = simp and-eq-true-iff at (v .range) in each
 
-  few-units : sum us ≤ 1000
+  pub few-units : sum us ≤ 1000
   unfolding inRange
   few-units = let (_, high) = simp and-eq-true-iff at (v .range) in leb-true _ _ high
 

@@ -11,10 +11,10 @@ use Rattle.area.specs.Entries.{entries}
 use Rattle.contract.specs.Res.{Res, refused, ok, test}
 use Rattle.contract.specs.Contract.{Contract}
 use Rattle.contract.specs.declared.Form.{Form}
-use Rattle.exchange.specs.Deal.{Deal, State}
+use Rattle.exchange.specs.Deal.{Deal, State, Plan}
 use Rattle.exchange.specs.PlanIn.{planIn}
 use Rattle.exchange.specs.declared.Objective.{Objective}
-use Rattle.planning.specs.Order.{namesOrder, dealBy}
+use Rattle.planning.specs.Order.{namesOrder, dealBy, NamesChosen}
 use Rattle.planning.specs.Areas.{Areas, hasRoom, roomFor}
 use Rattle.planning.specs.Promise.{Claimed, SuccessFor, roomed, PlansFor}
 use Rattle.planning.proofs.LinePlan.{Laid}
@@ -46,6 +46,7 @@ pub record Written (aim : Objective) (k : Contract) (n : ℕ) (named : List ℕ)
   pub long : 8 ≤ length (a .order)
   pub order-is : a′ .order ≡ named ++ drop 8 (a .order)
   pub names : namesOrder k (named ++ drop 8 (a .order)) ≡ true
+  pub goes : NamesChosen k (named ++ drop 8 (a .order))
   pub laid : Laid (Claimed aim (k .form)) (dealBy k (named ++ drop 8 (a .order))) n (planIn n (a′ .places) (a′ .sums)) (a .places) (a .sums) (a′ .places) (a′ .sums)
   pub work-is : a′ .work ≡ replicate (length (a .work)) 0
 
@@ -53,6 +54,7 @@ pub success : (aim : Objective) (k : Contract) (n : ℕ) (named : List ℕ) (a a
 success aim k n named a a′ w =
     record {
       order = rw (w .order-is) (w .names);
+      chosen = rw (w .order-is) (w .goes);
       ours = rw (w .order-is) (w .laid .is-ours);
       places = w .laid .places-are;
       sums = w .laid .sums-are;
@@ -67,6 +69,13 @@ claimed-steps Objective.Steps f d n ours h = h .steps
 claimed-steps Objective.Payments f d n ours h = h .steps
 claimed-steps Objective.Deliveries f d n ours h = h .steps
 claimed-steps Objective.Moves f d n ours h = h .steps
+
+-- and they are a plan
+pub claimed-plan : (aim : Objective) (f : Form) (d : Deal) (n : ℕ) (ours : List State) → Claimed aim f d n ours → Plan d ours
+claimed-plan Objective.Steps f d n ours h = h .plan
+claimed-plan Objective.Payments f d n ours h = h .plan
+claimed-plan Objective.Deliveries f d n ours h = h .plan
+claimed-plan Objective.Moves f d n ours h = h .plan
 
 -- ---- refusal 8
 

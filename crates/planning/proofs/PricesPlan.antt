@@ -1,27 +1,29 @@
 -- Unit prices planned along the chosen order. Assumes nothing.
-use mathlib.Core.Path.{_≡_, refl, ap, _∙_}
-use mathlib.Core.Bool.{true, false}
+use mathlib.Core.Path.{_≡_, refl, _∙_}
+use mathlib.Core.Bool.{true}
+use mathlib.Core.Logic.{dite}
 use mathlib.Core.List.{List, [], _++_, map, append-assoc, append-nil}
-use mathlib.Core.Option.{Option, none, some}
-use Prim.Native.Nat.{ℕ, _-_, suc, _≤_}
+use Prim.Native.Nat.{ℕ, _-_, suc, _≤_, _<_}
+use native.Mathlib.Decide.{decLt}
 use native.Mathlib.Omega.{arith}
-use lib.ListN.{length, take, drop, replicate, length-append, length-replicate, length-map}
+use lib.ListN.{length, take, drop, replicate, length-append, length-replicate, length-map, List·getD-eq-default}
 use lib.Seq.{take-at}
 use borrow.Author.Tests.{le-leb}
+use Rattle.area.specs.Entries.{Bytes}
+use Rattle.area.proofs.ByteLaws.{below-append, below-zeros}
 use Rattle.contract.specs.Valid.{Valid}
 use Rattle.contract.specs.declared.Form.the-variants.{UnitPrices}
 use Rattle.exchange.specs.Deal.{Deal, State, Plan}
 use Rattle.exchange.specs.Forms.{inOrder}
-use Rattle.exchange.specs.Choice.{together, choose}
+use Rattle.exchange.specs.Chosen.{together, IsChosen}
 use Rattle.exchange.specs.Named.{eachOnce}
 use Rattle.exchange.specs.declared.Objective.{Objective}
 use Rattle.exchange.specs.declared.Sides.{Sides}
 use Rattle.exchange.proofs.Choice.{chosen, none-plans, unsafe-plans}
-use Rattle.exchange.proofs.Choice.Named.{each-once}
+use Rattle.exchange.proofs.Choice.Named.{each-once, each-below}
 use Rattle.exchange.proofs.FormLaws.{order-rising}
 use Rattle.exchange.proofs.GivenOrder.{plan-exists}
-use Rattle.choice.specs.Promise.{numbered, answerTo, chosenFor}
-use Rattle.choice.specs.declared.Chosen.{Chosen}
+use Rattle.choice.specs.Promise.{numbered}
 use Rattle.line.specs.Segments.{dealAlong}
 use Rattle.line.specs.Promise as line
 use Rattle.order.specs.Bytes.{namesEach, itemsIn, picked}
@@ -34,27 +36,13 @@ use Rattle.planning.proofs.LinePlan.{line-laid}
 use Rattle.planning.proofs.Outcome.{room, success}
 use Rattle.planning.proofs.NamedOrder.{few-items, units-in-range, units-some, named-deal, named-units, named-fits}
 
--- what the answer of the choice says: the items that are chosen, or that none are
-pub found-items : (o : Option (List ℕ)) (r : Chosen) → r ≡ answerTo o → r .found ≡ true → (items : List ℕ) × (o ≡ some items) × (r .order ≡ numbered items)
-found-items none r e f = let z : false ≡ true = rw e at f in let q : _≡_ {A = ℕ} 0 1 = cc in absurd (omega arith)
-found-items (some items) r e f = (items, refl, ap (λ (x : Chosen). x .order) e)
-
-pub found-none : (o : Option (List ℕ)) (r : Chosen) → r ≡ answerTo o → r .found ≡ false → o ≡ none
-found-none none r e f = refl
-found-none (some items) r e f = let z : true ≡ false = rw e at f in let q : _≡_ {A = ℕ} 0 1 = cc in absurd (omega arith)
-
 module _ (s : Sides) (us cs vs : List ℕ) (v : Valid (contractWith UnitPrices s us cs vs)) where
-  -- there are at most eight items
-  pub chosen-is : chosenFor s us cs vs ≡ choose s us cs vs
-  unfolding chosenFor
-  chosen-is = rw (le-leb _ _ (few-items s us cs vs v)) refl
+  -- there is no chosen order
+  pub prices-none : ((items : List ℕ) → IsChosen s us cs vs items → ⊥) → NoPlan (contractWith UnitPrices s us cs vs)
+  prices-none none-chosen = none-plans s us cs vs (units-some us (units-in-range s us cs vs v)) none-chosen
 
-  -- no order is found
-  pub prices-none : choose s us cs vs ≡ none → NoPlan (contractWith UnitPrices s us cs vs)
-  prices-none e = none-plans s us cs vs (units-some us (units-in-range s us cs vs v)) e
-
-  -- of an order that is found
-  module _ (items : List ℕ) (e : choose s us cs vs ≡ some items) where
+  -- of the chosen order
+  module _ (items : List ℕ) (e : IsChosen s us cs vs items) where
     all : length items ≡ length us
     all = chosen s us cs vs items e .all
 
@@ -74,6 +62,19 @@ module _ (s : Sides) (us cs vs : List ℕ) (v : Valid (contractWith UnitPrices s
 
     pub long : length us ≤ length named
     long = let h = few-items s us cs vs v in omega (arith, eight)
+
+    pub named-bytes : Bytes named
+    named-bytes =
+        below-append 256 (map suc items) (replicate (8 - length items) 0) small (below-zeros 256 (8 - length items) (omega arith))
+      where
+        small : Bytes (map suc items)
+        small i =
+            dite
+            (decLt i (length (map suc items)))
+            (λ h.
+            let at-most = each-below (length us) (map suc items) (omega (arith, length-map items suc, all)) (each-once items (length us) (chosen s us cs vs items e .once)) i h .1 in
+            omega (arith, few-items s us cs vs v))
+            (λ (h : i < length (map suc items) → ⊥). rw (List·getD-eq-default (map suc items) 0 {n = i} (omega arith)) (omega arith))
 
     -- the bytes name the items, whatever follows them
     same-items : (rest : List ℕ) → itemsIn (length us) (named ++ rest) ≡ items
@@ -112,22 +113,31 @@ module _ (s : Sides) (us cs vs : List ℕ) (v : Valid (contractWith UnitPrices s
         let (xs, p) = plan-exists (inOrder s cs vs τ) (order-rising s cs vs τ) (λ a b. refl) .1 (chosen s us cs vs items e .possible safe) in
         no-plan xs (rw (same-deal, same) p))
 
-    pub prices-success : (aim : Objective) (n : ℕ) (a a′ : Areas) → roomFor (contractWith UnitPrices s us cs vs) a ≡ true
-        → line.Success aim segments n (a .places) (a .sums) (a′ .places) (a′ .sums)
+    -- the steps are laid out along the chosen order
+    pub chosen-success : (aim : Objective) (n : ℕ) (a a′ : Areas) → roomFor (contractWith UnitPrices s us cs vs) a ≡ true
+        → line.Success aim (inOrder s cs vs (together us items)) n (a .places) (a .sums) (a′ .places) (a′ .sums)
         → a′ .order ≡ named ++ drop 8 (a .order) → a′ .work ≡ replicate (length (a .work)) 0
         → SuccessFor aim (contractWith UnitPrices s us cs vs) n a a′
     unfolding orderIn
-    prices-success aim n a a′ h l o w =
-        let τ = together us items in
+    chosen-success aim n a a′ h l o w =
+        let d = inOrder s cs vs (together us items) in
         let rest = drop 8 (a .order) in
-        let same : itemsIn (length us) named ≡ items = rw (← append-nil named) (same-items []) in
-        let g : line.Success aim (inOrder s cs vs τ) n (a .places) (a .sums) (a′ .places) (a′ .sums) = rw (same-deal, same) at l in
         success aim (contractWith UnitPrices s us cs vs) n named a a′
         (record {
           eight = eight;
           long = room _ _ a h .order;
           order-is = o;
           names = names rest;
-          laid = rw (same-items rest) (line-laid UnitPrices (inOrder s cs vs τ) (order-rising s cs vs τ) (λ x y. refl) (λ xs b. b) aim n _ _ _ _ g);
+          goes = rw (same-items rest) e;
+          laid = rw (same-items rest) (line-laid UnitPrices d (order-rising s cs vs (together us items)) (λ x y. refl) (λ xs b. b) aim n _ _ _ _ l);
           work-is = w;
         })
+
+    -- the same by segments
+    pub prices-success : (aim : Objective) (n : ℕ) (a a′ : Areas) → roomFor (contractWith UnitPrices s us cs vs) a ≡ true
+        → line.Success aim segments n (a .places) (a .sums) (a′ .places) (a′ .sums)
+        → a′ .order ≡ named ++ drop 8 (a .order) → a′ .work ≡ replicate (length (a .work)) 0
+        → SuccessFor aim (contractWith UnitPrices s us cs vs) n a a′
+    prices-success aim n a a′ h l =
+        let same : itemsIn (length us) named ≡ items = rw (← append-nil named) (same-items []) in
+        chosen-success aim n a a′ h (rw (same-deal, same) at l)

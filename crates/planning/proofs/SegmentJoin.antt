@@ -9,7 +9,8 @@ use lib.ListN.{length, replicate, length-map}
 use borrow.Author.Tests.{eq-eqb, lt-ltb}
 use Rattle.contract.specs.Valid.{total}
 use Rattle.exchange.specs.Forms.{along, inOrder}
-use Rattle.exchange.specs.Choice.{at, together, sumOver, allItems}
+use Rattle.exchange.specs.Chosen.{at, together}
+use Rattle.exchange.specs.Choice.{sumOver, allItems}
 use Rattle.exchange.specs.declared.Sides.{Sides}
 use Rattle.line.specs.Segments.{spread, dealAlong, allHave, fits, totalOf}
 

@@ -9,14 +9,17 @@ use borrow.Author.Tests.{leb-true, ltb-true, le-leb, lt-ltb, eq-eqb}
 use Rattle.grid.specs.Rows.{rowsOf}
 use Rattle.contract.specs.Valid.{Valid, inRange, unitsInRange, rises, sum}
 use Rattle.contract.specs.declared.Form.the-variants.{Table}
-use Rattle.exchange.specs.Deal.{State, Plan}
+use Rattle.exchange.specs.Deal.{State, Safe, Plan}
+use Rattle.exchange.specs.Fewest.{Earliest}
 use Rattle.exchange.specs.Forms.{table}
 use Rattle.exchange.specs.Named.{eachOnce}
 use Rattle.exchange.specs.PlanIn.{planIn}
-use Rattle.exchange.specs.Search.{mostSteps}
+use Rattle.exchange.specs.Search.{count, mostSteps, planned}
+use Rattle.exchange.specs.Work.{workOf}
 use Rattle.exchange.specs.declared.Objective.{Objective}
 use Rattle.exchange.specs.declared.Sides.{Sides}
 use Rattle.exchange.proofs.PlanInLaws.{plan-in}
+use Rattle.exchange.proofs.TablePlan.{table-counted, table-earliest}
 use Rattle.exchange.proofs.TablePlan.RowUnits.{last-pos}
 use Rattle.order.specs.Bytes.{allZero, namesEach}
 use Rattle.search.specs.Promise as search
@@ -60,11 +63,12 @@ module _ (s : Sides) (us cs vs : List ℕ) (v : Valid (contractWith Table s us c
   unfolding inRange
   few-items = let (((_, high), _), _) = simp and-eq-true-iff at (v .range) in leb-true _ _ high
 
-  two-rows : 1 < rowsOf us
+  all-some : 0 < foldr _+_ 0 us
   unfolding inRange
-  two-rows =
-      let (((some, _), each), _) = simp and-eq-true-iff at (v .range) in
-      omega (arith, last-pos us (some-unit us (ltb-true _ _ some) each))
+  all-some = let (((some, _), each), _) = simp and-eq-true-iff at (v .range) in some-unit us (ltb-true _ _ some) each
+
+  two-rows : 1 < rowsOf us
+  two-rows = omega (arith, last-pos us all-some)
 
   pub cells-rise : search.Rise us cs vs
   unfolding rises
@@ -78,6 +82,20 @@ module _ (s : Sides) (us cs vs : List ℕ) (v : Valid (contractWith Table s us c
       let n = sum-is us in
       let w : rowsOf us * (mostSteps us + 1) ≤ length (a .work) = rw (← n) (omega (arith, r .work)) in
       rw (lt-ltb _ _ two-rows, le-leb _ _ few-rows, eq-eqb _ _ costs-rows, eq-eqb _ _ values-rows, ← n, le-leb _ _ (r .places), le-leb _ _ (r .sums), n, le-leb _ _ w) refl
+
+  -- ---- what the search finds, with a mark above the price
+
+  pub found-earliest : (mark : ℕ) → s .price < mark → Safe (table s us cs vs) 0 0
+      → count (workOf (table s us cs vs)) mark (mostSteps us) ≤ mostSteps us
+      → Earliest (table s us cs vs) (planned (workOf (table s us cs vs)) mark (mostSteps us))
+  found-earliest mark high =
+      table-earliest s us cs vs costs-rows values-rows (cells-rise .costs-rise) (cells-rise .values-rise) mark high all-some
+
+  pub plan-counted : (mark : ℕ) (xs : List State) → Plan (table s us cs vs) xs
+      → Safe (table s us cs vs) 0 0 × (count (workOf (table s us cs vs)) mark (mostSteps us) ≤ mostSteps us)
+  plan-counted mark = table-counted s us cs vs costs-rows values-rows (cells-rise .costs-rise) (cells-rise .values-rise) mark
+
+  -- ---- the promise
 
   -- no plan over the rows
   pub table-none : ((xs : List State) → Plan (table s us cs vs) xs → ⊥) → NoPlan (contractWith Table s us cs vs)
@@ -96,7 +114,7 @@ module _ (s : Sides) (us cs vs : List ℕ) (v : Valid (contractWith Table s us c
               plan = h .earliest .fewest .plan;
               steps = h .steps;
               least = λ xs p. rw (h .steps) (h .earliest .fewest .least xs p);
-              steps-go = h .earliest .fewest .pays-most;
+              steps-go = h .earliest;
             };
         places-are = h .places-are;
         sums-are = h .sums-are;
@@ -114,6 +132,7 @@ module _ (s : Sides) (us cs vs : List ℕ) (v : Valid (contractWith Table s us c
         long = room _ _ a e .order;
         order-is = o;
         names = refl;
+        goes = tt;
         laid = table-laid n (a .places) (a .sums) (a′ .places) (a′ .sums) h;
         work-is = w;
       })

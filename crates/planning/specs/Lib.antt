@@ -4,6 +4,7 @@ pub mod Order
 pub mod Areas
 pub mod Answer
 pub mod Promise
+pub mod OneAnswer
 pub mod Bounds
 pub mod Check
 -- a contract that was read, and a plan that is judged

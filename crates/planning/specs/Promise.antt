@@ -10,14 +10,14 @@ use Rattle.contract.specs.Contract.{Contract}
 use Rattle.contract.specs.Parse.{parse}
 use Rattle.contract.specs.declared.Form.{Form}
 use Rattle.contract.specs.declared.Form.the-variants.{Ladder, UnitPrices, Table}
-use Rattle.exchange.specs.Deal.{Deal, State, Plan, Chain, Behind, start, after}
+use Rattle.exchange.specs.Deal.{Deal, State, Plan, Behind, start, after}
 use Rattle.exchange.specs.PlanIn.{planIn}
 use Rattle.exchange.specs.Rule.{ruled}
-use Rattle.exchange.specs.Fewest.{PaysMost}
+use Rattle.exchange.specs.Fewest.{Earliest}
 use Rattle.exchange.specs.Objectives.{PlanFor, count, counted}
 use Rattle.exchange.specs.declared.Objective.{Objective}
 use Rattle.planning.specs.Deals.{NoPlan}
-use Rattle.planning.specs.Order.{namesOrder, dealBy}
+use Rattle.planning.specs.Order.{namesOrder, dealBy, NamesChosen}
 use Rattle.planning.specs.Areas.{Areas, roomFor, workCleared}
 use Rattle.planning.specs.Answer.{answerOf}
 use Rattle.planning.specs.declared.Planned.{Planned}
@@ -45,12 +45,12 @@ pub record ByRule (d : Deal) (ours : List State) : Type 0 where
   pub rule-steps : ours ≡ ruled d start (length ours)
   pub never-behind : (xs : List State) → Plan d xs → (m : ℕ) → Behind (after start xs m) (after start ours m)
 
--- how the steps of each form go: those of a ladder and of unit prices by the rule for a given order; in a table "Each step pays the
--- smaller of upper(a) and P"
+-- how the steps of each form go: those of a ladder and of unit prices by the rule for a given order; W2: "For a table, of the fewest-step
+-- plans the one whose list of rows is earliest, compared from the first step"
 abbrev pub StepsGo : Form → Deal → List State → Type 0
 StepsGo Ladder d ours = ByRule d ours
 StepsGo UnitPrices d ours = ByRule d ours
-StepsGo Table d ours = Chain (PaysMost d) start ours
+StepsGo Table d ours = Earliest d ours
 
 -- n steps of the deal d: they are a plan, no plan has fewer
 pub record Ours (f : Form) (d : Deal) (n : ℕ) (ours : List State) : Type 0 where
@@ -74,10 +74,11 @@ Claimed Objective.Payments f = OursFor Objective.Payments
 Claimed Objective.Deliveries f = OursFor Objective.Deliveries
 Claimed Objective.Moves f = OursFor Objective.Moves
 
--- n steps were planned: the order bytes name an order, and the first n entries are our plan along it. All other entries are zero, and so is
--- the work area; remainders, lengths and later order bytes are as they were
+-- n steps were planned: the order bytes name the chosen order, and the first n entries are our plan along it. All other entries are zero, and
+-- so is the work area; remainders, lengths and later order bytes are as they were
 pub record SuccessFor (aim : Objective) (k : Contract) (n : ℕ) (before after : Areas) : Type 0 where
   pub order : namesOrder k (after .order) ≡ true
+  pub chosen : NamesChosen k (after .order)
   pub ours : Claimed aim (k .form) (dealBy k (after .order)) n (planIn n (after .places) (after .sums))
   pub places : Filled 2 (map (λ s. s .place) (planIn n (after .places) (after .sums))) (before .places) (after .places)
   pub sums : Filled 4 (map (λ s. s .paid) (planIn n (after .places) (after .sums))) (before .sums) (after .sums)

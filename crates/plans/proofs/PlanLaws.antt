@@ -80,6 +80,7 @@ module _ (p s o w p′ s′ o′ w′ : List ℕ) where
   settled-by (ok k) small (Planned.Steps n) h q =
       record {
         order = h .order;
+        chosen = h .chosen;
         ours = h .ours;
         places = h .places;
         sums = h .sums;

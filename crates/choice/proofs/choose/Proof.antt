@@ -9,7 +9,7 @@ returns : tie.Need-returns
 returns c = λ price.
     let x = c .before .before .before .before .args in
     let p : Sides = record { price = price; supplier = x .supplier; buyer = x .buyer } in
-    too-many p (x .units .now) (x .costs .now) (x .values .now) (c .if1 .taken)
+    record { answers = too-many p (x .units .now) (x .costs .now) (x .values .now) (c .if1 .taken) }
 
 add-slack : tie.Need-add-slack
 add-slack c = search needs
@@ -36,8 +36,10 @@ returns-2 : tie.Need-returns-2
 returns-2 c = λ price.
     let x = c .before .before .before .before .before .before .before .before .before .args in
     let p : Sides = record { price = price; supplier = x .supplier; buyer = x .buyer } in
-    not-all p (x .units .now) (x .costs .now) (x .values .now) (c .before .before .before .before .before .if1 .left) (c .before .before .before .before .total .ensures .0) (c .before .before .before .total2 .ensures .0)
-    (c .before .before .place .ensures) (c .before .place2 .ensures) (c .if2 .taken)
+    record {
+      answers = not-all p (x .units .now) (x .costs .now) (x .values .now) (c .before .before .before .before .total .ensures .0) (c .before .before .before .total2 .ensures .0)
+          (c .before .before .place .ensures) (c .before .place2 .ensures) (c .if2 .taken);
+    }
 
 join-requires : tie.Need-join-requires
 join-requires c κs = search needs
@@ -46,8 +48,10 @@ returns-3 : tie.Need-returns-3
 returns-3 c = λ price.
     let x = c .before .before .before .before .before .before .before .before .before .before .before .before .before .args in
     let p : Sides = record { price = price; supplier = x .supplier; buyer = x .buyer } in
-    all p (x .units .now) (x .costs .now) (x .values .now) (c .before .before .before .before .before .before .before .before .before .if1 .left) (c .before .before .before .before .before .before .before .before .total .ensures .0) (c .before .before .before .before .before .before .before .total2 .ensures .0)
-    (c .before .before .before .before .before .before .place .ensures) (c .before .before .before .before .before .place2 .ensures) (c .before .before .before .before .if2 .left) (c .join .ensures)
+    record {
+      answers = all p (x .units .now) (x .costs .now) (x .values .now) (c .before .before .before .before .before .before .before .before .total .ensures .0) (c .before .before .before .before .before .before .before .total2 .ensures .0)
+          (c .before .before .before .before .before .before .place .ensures) (c .before .before .before .before .before .place2 .ensures) (c .before .before .before .before .if2 .left) (c .join .ensures);
+    }
 
 pub choose-spec : {M : Type 1} → statement M
 choose-spec =

@@ -4,7 +4,8 @@ use Prim.Native.Nat.{ℕ, _-_, _*_, _^_, _≤_}
 use native.Mathlib.Omega.{arith}
 use lib.ListN.{length}
 use borrow.Author.Needs.{needs}
-use Rattle.exchange.specs.Choice.{at, sumOver, allItems}
+use Rattle.exchange.specs.Chosen.{at}
+use Rattle.exchange.specs.Choice.{sumOver, allItems}
 use Rattle.choice.proofs.ItemLaws.{total-next}
 use Rattle.choice.proofs.total.Statement.{statement}
 use Rattle.choice.proofs.total.Tie as tie

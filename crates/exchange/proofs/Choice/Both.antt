@@ -7,14 +7,15 @@ use mathlib.Core.List.{List, [], _∷_, _++_, reverse, reverse-cons, reverse-app
 use Prim.Native.Nat.{ℕ, zero, suc, _+_, _≤_, _<_}
 use native.Mathlib.Nat.{le-of-lt}
 use native.Mathlib.Numerals.{add-one}
-use native.Mathlib.Decide.{decLt, ℕ-discrete}
+use native.Mathlib.Decide.{ℕ-discrete}
 use native.Mathlib.Omega.{arith}
-use lib.ListN.{length, replicate, replicate-append-replicate, List·getD-eq-default}
+use lib.ListN.{length, replicate, replicate-append-replicate}
 use borrow.Author.Tests.{leb-true, leb-false, not-true, not-false}
 use Rattle.exchange.specs.Forms.{occurs, Order}
-use Rattle.exchange.specs.Choice.{at, together, sumOver, allItems, comesFirst, placed, front, back, bothEnds}
+use Rattle.exchange.specs.Chosen.{at, together}
+use Rattle.exchange.specs.Choice.{sumOver, allItems, comesFirst, placed, front, back, bothEnds}
 use Rattle.exchange.specs.declared.Sides.{Sides}
-use Rattle.exchange.proofs.Choice.Sums.{num, sum, bool-cases, occurs-append, occurs-reverse, occurs-together, sum-append, sum-reverse, sum-order}
+use Rattle.exchange.proofs.Choice.Sums.{num, sum, bool-cases, occurs-append, occurs-reverse, once-order, sum-append, sum-reverse, sum-order}
 use Rattle.exchange.proofs.Choice.Sums.{tally, tally-length, tally-once, tally-full}
 use Rattle.exchange.proofs.Choice.Room.{Allowed, allowed-append, allowed-mirror}
 use Rattle.exchange.proofs.Choice.End.{together-append, Parts, Kept, kept, all-placed}
@@ -25,7 +26,7 @@ reverse-replicate (suc k) i =
     reverse-cons i (replicate k i) ∙ ap (λ (l : List ℕ). l ++ (i ∷ [])) (reverse-replicate k i) ∙ replicate-append-replicate k 1 i
     ∙ ap (λ (m : ℕ). replicate m i) (add-one k)
 
-together-reverse : (units l : List ℕ) → together units (reverse l) ≡ reverse (together units l)
+pub together-reverse : (units l : List ℕ) → together units (reverse l) ≡ reverse (together units l)
 unfolding together
 together-reverse units [] = refl
 together-reverse units (i ∷ l) =
@@ -47,10 +48,10 @@ module _ (p : Sides) (units costs values : List ℕ) where
   abbrev backItems : List ℕ
   backItems = placed (back p units costs values) (length units)
 
-  front-parts : Parts (front p units costs values)
+  pub front-parts : Parts (front p units costs values)
   front-parts = record { gains = λ x h. leb-true _ _ h; rest = λ x h. le-of-lt (leb-false _ _ h) }
 
-  back-parts : Parts (back p units costs values)
+  pub back-parts : Parts (back p units costs values)
   back-parts = record { gains = λ x h. le-of-lt (leb-false _ _ (not-true _ h)); rest = λ x h. leb-true _ _ (not-false _ h) }
 
   keeps-front : Kept (front p units costs values) frontItems
@@ -87,12 +88,7 @@ module _ (p : Sides) (units costs values : List ℕ) where
     items-once = tally-full items both-once (length units) (sym both-length ∙ e)
 
     pub items-order : Order units (together units items)
-    items-order x =
-        occurs-together units x items
-        ∙ dite
-        (decLt x (length units))
-        (λ h. rw (items-once x h) (omega arith))
-        (λ (h : x < length units → ⊥). rw (List·getD-eq-default units 0 {n = x} (omega arith)) (omega arith))
+    items-order = once-order units items items-once
 
     pub items-fit : Fitting (together units items)
     items-fit =

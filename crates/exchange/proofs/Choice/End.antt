@@ -11,7 +11,8 @@ use native.Mathlib.Omega.{arith}
 use lib.ListN.{length, replicate, length-append}
 use borrow.Author.Tests.{eq-eqb, lt-ltb, le-ltb}
 use Rattle.exchange.specs.Forms.{occurs, Order}
-use Rattle.exchange.specs.Choice.{at, together, sumOver, End, best, placed}
+use Rattle.exchange.specs.Chosen.{at, together}
+use Rattle.exchange.specs.Choice.{sumOver, End, best, placed}
 use Rattle.exchange.proofs.Choice.Sums.{num, num-most, bool-cases, same-cases, occurs-append, sum-together, sum-over, below-length}
 use Rattle.exchange.proofs.Choice.Sums.{tally-length, tally-full}
 use Rattle.exchange.proofs.Choice.Room.{Allowed, allowed-append, allowed-block, greedy}
@@ -45,7 +46,7 @@ module _ (e : End) where
     pub new : occurs x done ≡ 0
 
   -- one choice: nothing fits and nothing is placed, or an item that fits is
-  grows : (k : ℕ) → (None e (placed e k) (length (e .units)) (best e (placed e k) (length (e .units))) × (placed e (suc k) ≡ placed e k))
+  pub grows : (k : ℕ) → (None e (placed e k) (length (e .units)) (best e (placed e k) (length (e .units))) × (placed e (suc k) ≡ placed e k))
       ⊎ ((i : ℕ) × Found e (placed e k) (length (e .units)) i × (placed e (suc k) ≡ placed e k ++ (i ∷ [])))
   unfolding placed
   grows k =

@@ -4,15 +4,16 @@ use mathlib.Core.Bool.{true, and-eq-true-iff}
 use mathlib.Core.Logic.{_⊎_, inl, inr, ⊎-elim, dite}
 use mathlib.Core.List.{List, [], _∷_, map, foldr}
 use Prim.Native.Nat.{ℕ, zero, suc, _+_, _-_, _≤_, _<_}
-use native.Mathlib.Decide.{ℕ-discrete, decLt}
+use native.Mathlib.Decide.{ℕ-discrete}
 use native.Mathlib.Omega.{arith}
 use lib.Dec.{eqb, eqb·suc-suc}
-use lib.ListN.{length, getD, List·getD-eq-default}
+use lib.ListN.{length, getD}
 use borrow.Author.Tests.{eqb-true, eq-eqb}
 use Rattle.exchange.specs.Forms.{occurs, Order}
-use Rattle.exchange.specs.Choice.{together, sumOver, allItems}
+use Rattle.exchange.specs.Chosen.{together}
+use Rattle.exchange.specs.Choice.{sumOver, allItems}
 use Rattle.exchange.specs.Named.{eachOnce}
-use Rattle.exchange.proofs.Choice.Sums.{num, sum, same-cases, occurs-together, sum-order}
+use Rattle.exchange.proofs.Choice.Sums.{num, sum, same-cases, once-order, sum-order}
 
 -- ---- each item of a list named from 1
 
@@ -121,13 +122,9 @@ order-length units σ o = length-sum σ ∙ sum-order units (λ x. 1) σ o ∙ c
 module _ (units bs : List ℕ) (l : length bs ≡ length units) (e : eachOnce (length units) bs ≡ true) where
   -- all units of the first item named, then all of the second, and so on
   pub named-order : Order units (together units (map (λ b. b - 1) bs))
-  named-order j =
-      occurs-together units j (map (λ b. b - 1) bs)
-      ∙ dite
-      (decLt j (length units))
-      (λ h.
-      rw (occurs-named j bs (λ i p. each-below (length units) bs (omega arith) e i p .0), each-occurs (length units) bs e j h) (omega arith))
-      (λ (h : j < length units → ⊥). rw (List·getD-eq-default units 0 {n = j} (omega arith)) (omega arith))
+  named-order =
+      once-order units (map (λ b. b - 1) bs)
+      (λ j h. occurs-named j bs (λ i p. each-below (length units) bs (omega arith) e i p .0) ∙ each-occurs (length units) bs e j h)
 
   pub named-length : length (together units (map (λ b. b - 1) bs)) ≡ foldr _+_ 0 units
   named-length = order-length units (together units (map (λ b. b - 1) bs)) named-order

@@ -12,7 +12,8 @@ use lib.Signed.{_≤ℤ_}
 use borrow.Author.Tests.{leb-true, le-leb}
 use Rattle.exchange.specs.Bounds.{Terms, upper, lower}
 use Rattle.exchange.specs.Forms.{along, inOrder, Order}
-use Rattle.exchange.specs.Choice.{slack, at, together, sumOver, hasRoom, front, back}
+use Rattle.exchange.specs.Chosen.{slack, at, together}
+use Rattle.exchange.specs.Choice.{sumOver, hasRoom, front, back}
 use Rattle.exchange.specs.declared.Sides.{Sides}
 use Rattle.exchange.proofs.Int.{pos-is, pos-sub, sub-add, sub-sub, ≤-sub}
 use Rattle.exchange.proofs.BoundLaws.{upper-is, lower-is}

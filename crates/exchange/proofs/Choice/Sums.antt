@@ -10,7 +10,8 @@ use lib.Dec.{eqb}
 use lib.ListN.{length, replicate, List·getD-eq-default}
 use borrow.Author.Tests.{eq-eqb, ne-eqb}
 use Rattle.exchange.specs.Forms.{along, occurs, Order}
-use Rattle.exchange.specs.Choice.{at, together, sumOver, allItems}
+use Rattle.exchange.specs.Chosen.{at, together}
+use Rattle.exchange.specs.Choice.{sumOver, allItems}
 
 abbrev pub num : Bool → ℕ
 num b = cond b 1 0
@@ -75,6 +76,15 @@ occurs-together units x (i ∷ l) =
     omega (arith, a, r, t, ap (at units) (h .0), ap (λ (k : ℕ). k * at units i) (h .1), ap (λ (k : ℕ). k * at units x) (h .1)))
     (λ h. omega (arith, a, r, t, ap (λ (k : ℕ). k * at units i) (h .1), ap (λ (k : ℕ). k * at units x) (h .1)))
     (same-cases i x)
+
+-- each item once, with all its units together, is an order
+pub once-order : (units items : List ℕ) → ((x : ℕ) → x < length units → occurs x items ≡ 1) → Order units (together units items)
+once-order units items once x =
+    occurs-together units x items
+    ∙ dite
+    (decLt x (length units))
+    (λ h. rw (once x h) (omega arith))
+    (λ (h : x < length units → ⊥). rw (List·getD-eq-default units 0 {n = x} (omega arith)) (omega arith))
 
 occurs-items : (n x : ℕ) → x < n → occurs x (allItems n) ≡ 1
 unfolding occurs allItems
