@@ -25,11 +25,17 @@ from record_cases import in_turn  # noqa: E402
 
 EXAMPLES = Path(__file__).resolve().parent.parent / "examples/records"
 # the examples and what the paper says of them: a refusal, or the step count
-PLANNED = {"case-a": 5, "case-b": -9, "case-c": 4, "case-d": -9, "case-e": 1, "case-f": 5, "case-g": 4, "case-h": -9,
-           "case-k-short": -1, "case-k-long": -7, "ladder-1001": -5, "total-over": -4, "table-3": 5, "stock-ladder": 17}
+PLANNED = {"case-a": 5, "case-b": -9, "case-c": 4, "case-d": -9, "case-e": 1, "case-h": -9, "case-k-short": -1, "case-k-long": -7,
+           "ladder-1001": -5, "total-over": -4, "stock-ladder": 17}
 # the same for fewest payments, deliveries and moves, worked out by hand
 SPARED = {"case-a": (5, 5, 5), "case-b": (-9,) * 3, "case-c": (4, 4, 4), "case-e": (1, 1, 1), "case-f": (-2,) * 3, "case-g": (4, 5, 4),
-          "case-h": (-9,) * 3, "case-k-short": (-1,) * 3, "case-k-long": (-7,) * 3, "table-3": (-2,) * 3, "total-largest": (2, 2, 2)}
+          "case-h": (-9,) * 3, "case-k-short": (-1,) * 3, "case-k-long": (-7,) * 3, "table-3": (-2,) * 3, "total-largest": (2, 2, 2),
+          "two-rules": (7, 8, 7)}
+# examples for which an order or rows are chosen: the order and the steps
+CASE_F = (), [(1, 5), (1, 10), (4, 10), (4, 22), (9, 22)]
+CHOSEN = {"case-f": CASE_F, "table-3": CASE_F, "case-g": ((1, 2), [(1, 1), (1, 6), (2, 6), (2, 8)]),
+          "two-orders": ((2, 1), [(1, 4), (2, 4), (2, 6)]),
+          "two-rules": ((2, 1, 3, 4), [(1, 1), (2, 4), (4, 6), (5, 10), (7, 11), (7, 13), (8, 13)])}
 # examples that the paper only says are read: the longest ladder, and the greatest totals
 READ = ("ladder-1000", "total-largest")
 # the plan that the published method prints for its table 3
@@ -64,6 +70,11 @@ def example_plans(lib):
     for name, wanted in PLANNED.items():
         same(name, "the answer to planning", planned(lib, example(name))[0], wanted)
         yield "example"
+    for name, (items, steps) in CHOSEN.items():
+        answer, (places, sums, order) = planned(lib, example(name))
+        got = [planning.state_after(k, places, sums) for k in range(1, answer + 1)]
+        same(name, "the order and the plan", (order, got), (planning.order_bytes(items), steps))
+        yield "example"
     for name, wanted in SPARED.items():
         answers = [lib.plan_fewest(goal, example(name), bytes(9_000), bytes(9_000), bytes(8))[0] for goal in sparing.GOALS]
         same(name, "the answers for fewest payments, deliveries, moves", answers, list(wanted))
@@ -82,26 +93,19 @@ def example_plans(lib):
 
 
 def stock_prices(lib):
-    """The stock figure as unit prices: its order names each item once, and its plan is that of the ladder in this order."""
-    record = example("stock-prices")
-    answer, (places, sums, order) = planned(lib, record)
-    items = tuple(item for item in order if item)
-    same("stock-prices", "whether it is planned", answer > 0, True, answer)
-    same("stock-prices", "the order", (sorted(items), order), ([1, 2, 3, 4, 5], planning.order_bytes(items)))
-    along = planned(lib, examples.stocks_along(items))
-    same("stock-prices", "the plan in its order", (answer, places, sums), (along[0], *along[1][:2]))
-    same("stock-prices", "the check of the plan", planning.check(record, answer, places, sums, order), 0)
-    same("stock-prices", "the order", ("steps", order), planning.plan(record, len(places), len(sums), len(order), 0)[::2])
+    """The stock figure as unit prices: the order that the figure prints, and the plan of the ladder in this order."""
+    answer, (places, sums, order) = planned(lib, example("stock-prices"))
+    along, areas = planned(lib, example("stock-ladder"))
+    same("stock-prices", "the order", order, planning.order_bytes(examples.STOCK_ORDER))
+    same("stock-prices", "the plan in its order", (answer, places, sums), (along, *areas[:2]))
     return "example"
 
 
 def two_orders(lib):
     """The count for unit prices is against plans in our order: another one may have a shorter plan."""
-    answer, (_, _, order) = planned(lib, example("two-orders"))
     counts = [planned(lib, examples.ladder(examples.TWO_ORDERS_DEAL, rises))[0]
               for rises in (examples.TWO_ORDERS, examples.TWO_ORDERS[::-1])]
     same("two-orders", "the steps of each order", counts, [2, 3])
-    same("two-orders", "the steps in our order", answer, counts[order.index(1)], order)
     return "example"
 
 

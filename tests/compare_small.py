@@ -1,6 +1,7 @@
 """Holds the verified planners, called through the C library, against all safe plans of small deals: for planning in all orders of
 their units whether a plan exists, that ours is safe and has the fewest steps, and that along our order nobody is ever ahead; for
-the plans that spare payments, deliveries or moves that no safe plan in the same order has fewer.
+the plans that spare payments, deliveries or moves that no safe plan in the same order has fewer. For unit prices also that of all
+orders of the items ours alone is the one that the paper chooses, for a table that no fewest plan has earlier rows.
 
 usage: python3 tests/compare_small.py [--seed N] [--deals N] [--sparing-deals N]
 
@@ -59,27 +60,35 @@ def hold(contract, judged, shown):
 
 
 def small_deals(lib, rng, deals):
+    """How many deals of each kind there were; one may be of several kinds, or of none."""
     for form in FORMS:
+        seen = Counter()
         for _ in range(deals):
             contract = planning_cases.tiny_deal(rng, form)
             plan = planned(lib, contract)
             hold(contract, brute.judged(contract, plan), plan)
-            yield f"{NAMES[form]}, {'planned' if plan else 'impossible'}"
+            seen.update(["planned" if plan else "impossible", *brute.kinds(contract, plan)])
+        yield from enough(NAMES[form], seen, brute.KINDS[form], deals)
 
 
 def sparing_deals(lib, rng, deals):
-    """The three sparing plans of each deal; how many deals of each kind there were."""
+    """The same for the three sparing plans of each deal."""
     for form in LADDER, UNIT_PRICES:
         seen = Counter()
         for _ in range(deals):
             contract = sparing_cases.small_deal(rng, form)
             plans = {goal: spared(lib, contract, goal) for goal in library.GOALS}
             hold(contract, brute.judged_sparing(contract, plans), plans)
-            seen[brute.starts_kind(contract, plans)] += 1
-        rare = [kind for kind in brute.START_KINDS if seen[kind] < deals / 30]
-        if rare:
-            sys.exit(f"too few of the kinds {rare}: {seen}")
-        yield from (f"{NAMES[form]}, sparing, {kind}" for kind in seen.elements())
+            seen.update([brute.starts_kind(contract, plans), *brute.kinds(contract, plans["moves"])])
+        yield from enough(f"{NAMES[form]}, sparing", seen, brute.START_KINDS + brute.KINDS[form], deals)
+
+
+def enough(name, seen, kinds, deals):
+    """A line for each kind; ends the program where one came up too rarely."""
+    rare = [kind for kind in kinds if seen[kind] < deals / 30]
+    if rare:
+        sys.exit(f"{name}: too few of the kinds {rare}: {seen}")
+    return (f"{count:8} {name}, {kind}" for kind, count in sorted(seen.items()))
 
 
 def main():
@@ -91,11 +100,9 @@ def main():
     rng = random.Random(words.seed)
     with tempfile.TemporaryDirectory() as folder:
         lib = library.Library(library.build(folder))
-        seen = Counter(small_deals(lib, rng, words.deals))
-        seen.update(sparing_deals(lib, rng, words.sparing_deals))
-    for name, count in sorted(seen.items()):
-        print(f"{count:8} {name}")
-    print(f"{sum(seen.values())} small deals held against all their plans")
+        print(*small_deals(lib, rng, words.deals), sep="\n")
+        print(*sparing_deals(lib, rng, words.sparing_deals), sep="\n")
+    print(f"{len(FORMS) * words.deals + 2 * words.sparing_deals} small deals held against all their plans")
 
 
 if __name__ == "__main__":

@@ -51,6 +51,52 @@ PLANNING = (
     ("bytes after a session are cut off", "+ bytes(marks) + area[SESSION_SIZE:]", "+ bytes(marks)"),
 )
 
+# planning.py: the order for unit prices, and the rows of a table
+
+FORWARDS = "    forwards = [Pick(item, units, cost - value, value) for item, units, cost, value in items if cost >= value]\n"
+BACKWARDS = "    backwards = [Pick(item, units, value - cost, cost) for item, units, cost, value in items if cost < value]\n"
+PICKED = "    first, last = picked(forwards, gap_at_start), picked(backwards, gap_at_end)\n"
+BOTH = "    return None if first is None or last is None else (*first, *reversed(last))\n"
+ADMITTED = "[pick for pick in picks if pick.need <= gap]"
+BEST = "max(admitted, key=lambda pick: (pick.gain, -pick.item))"
+MOVED_ON = "        gap += best.units * best.gain\n"
+ORDER = "    order = picked_order(contract)\n"
+OWN_ORDER = ORDER + '''\
+    if order and steps_along(deal_of(contract, sorted(order))):
+        order = tuple(sorted(order))
+'''
+SUCCESSORS = "for higher in above[row]:"
+PAYS = "        pays = min(deal.upper[row], deal.price)\n"
+
+CHOICE = (
+    ("the items' own order where it has a plan", ORDER, OWN_ORDER),
+    ("the higher number on a tie", BEST, BEST.replace("-pick.item", "pick.item")),
+    ("the higher number on a tie from behind", PICKED + BOTH,
+     PICKED.replace("picked(backwards,", "picked([pick._replace(item=-pick.item) for pick in backwards],")
+     + BOTH.replace("reversed(last)", "map(abs, reversed(last))")),
+    ("more units on a tie", BEST, BEST.replace("-pick.item", "pick.units, -pick.item")),
+    ("whole segments compared", BEST, BEST.replace("pick.gain", "pick.units * pick.gain")),
+    ("the least surplus", BEST, BEST.replace("pick.gain", "-pick.gain")),
+    ("the least need ahead of the surplus", BEST, BEST.replace("pick.gain", "-pick.need, pick.gain")),
+    ("the first item admitted", BEST, "admitted[0]"),
+    ("the bound not looked at", ADMITTED, "list(picks)"),
+    ("less than the bound", ADMITTED, ADMITTED.replace("<=", "<")),
+    ("the bound after the item's first unit", ADMITTED, ADMITTED.replace("<= gap", "<= gap + pick.gain")),
+    ("the bound at the item's other end", ADMITTED, ADMITTED.replace("<= gap", "<= gap + pick.units * pick.gain")),
+    ("the bound not moved on", *dropped(MOVED_ON)),
+    ("the bound moved on by one unit", MOVED_ON, MOVED_ON.replace("best.units * ", "")),
+    ("the bound at the end for the front", PICKED, PICKED.replace("gap_at_start", "gap_at_end")),
+    ("the bound at the start for the last places", PICKED, PICKED.replace("gap_at_end", "gap_at_start")),
+    ("the cost as the need from the front", FORWARDS, FORWARDS.replace("value, value)", "value, cost)")),
+    ("the value as the need from behind", BACKWARDS, BACKWARDS.replace("cost, cost)", "cost, value)")),
+    ("equal cost and value among the others", FORWARDS + BACKWARDS,
+     FORWARDS.replace(">=", ">") + BACKWARDS.replace("cost < value", "cost <= value")),
+    ("the others not from the last place backwards", BOTH, BOTH.replace("reversed(last)", "last")),
+    ("the others first", BOTH, BOTH.replace("*first, *reversed(last)", "*reversed(last), *first")),
+    ("the last rows of a table", SUCCESSORS, "for higher in reversed(above[row]):"),
+    ("a table's steps pay a coin less than the most", PAYS, PAYS[:-1] + " - (paid < deal.upper[row] < deal.price)\n"),
+)
+
 # sparing.py
 
 SPARING_TABLE = '    if contract.header.form == TABLE:\n        return "refused", MAP\n'
@@ -59,6 +105,11 @@ SPARING_SHORT = ('    if areas_too_short(contract, places_len, sums_len, order_l
 SPARING_FOUND = ('    found = plan_of(goal, contract)\n'
                  '    if found is None:\n        return "refused", IMPOSSIBLE\n')
 SPARING_PARSED = "    contract = records.parse(record)\n"
+SPARING_ITEMS = "    _, items = found\n"
+SPARING_OWN_ORDER = SPARING_ITEMS + '''\
+    if planning.steps_along(deal_of(contract, sorted(items))):
+        items = tuple(sorted(items))
+'''
 STARTS = "{PAYMENTS: delivery_start, DELIVERIES: payment_start}"
 SMALLER = "min(payment_start, delivery_start, key=moves)"
 FIRST = "    steps = [] if first == START else [first]\n"
@@ -90,6 +141,7 @@ SPARING = (
      SPARING_AREAS.replace("order, b", "order[:8] + bytes(len(order[8:])), b")),
     ("the plan area zero after 9", SPARING_AREAS,
      '    if reply == ("refused", IMPOSSIBLE):\n        places = bytes(len(places))\n' + SPARING_AREAS),
+    ("a plan along the items' own order where it has one", SPARING_ITEMS, SPARING_OWN_ORDER),
     ("items in their own order", '"steps", steps, order_bytes(items)', '"steps", steps, order_bytes(sorted(items))'),
     ("8 for every table", SPARING_TABLE, SPARING_TABLE.replace("MAP", "SHORT")),
     ("8 ahead of 2 for a table", SPARING_TABLE, SPARING_TABLE.replace("MAP", "MAP if order_len >= 8 else SHORT")),
@@ -201,5 +253,5 @@ WRITING = (
 )
 
 # the C library has ways of its own to a record, so the reader's rules have to be tried there too
-GROUPS = ((PLANNING, "planning", ("plans",)), (SPARING, "sparing", ("plans",)), (READING, "record", ("records", "plans")),
-          (LENGTHS, "record", ("records",)), (WRITING, "record", ("records",)))
+GROUPS = ((PLANNING, "planning", ("plans",)), (CHOICE, "planning", ("plans",)), (SPARING, "sparing", ("plans",)),
+          (READING, "record", ("records", "plans")), (LENGTHS, "record", ("records",)), (WRITING, "record", ("records",)))

@@ -2,15 +2,17 @@
 
 A World is a set of places with the units that each holds. A ladder has one world. Unit prices have one for each order
 of the units, those of one item together or not. A table has one, whose places are all rows. States are tested by
-whether a side gains by leaving, not by the bounds that the planner uses. No plan is thought better than another one:
-whatever is said of all plans comes from going through all states that they have after k steps.
+whether a side gains by leaving, not by the bounds that the planner uses; those stand only where the papers name them.
+No plan is thought better than another one: whatever is said of all plans comes from going through all states that they
+have after k steps.
 
 Plans without repeated states are enough: a step that moves nothing only delays what follows.
 """
 from dataclasses import dataclass
 from itertools import permutations, product
+from typing import NamedTuple
 
-from record import LADDER, TABLE
+from record import LADDER, TABLE, UNIT_PRICES
 
 START = (0, 0)
 
@@ -132,15 +134,15 @@ def greatest(found_layers):
     return [(max(place for place, _ in layer), max(paid for _, paid in layer)) for layer in found_layers]
 
 
-def earliest_rows(world, steps, count):
-    """Of all plans with so many steps the earliest list of rows, whatever they pay."""
+def earliest_rows(world, steps, count, first=min):
+    """Of all plans with so many steps the earliest list of rows, whatever they pay; with max the latest one."""
     ends_in = [{world.end}]  # by number of steps left
     for _ in range(count):
         ends_in.append({state for state in steps if any(after in ends_in[-1] for after in steps[state])})
     rows, here = [], {START} & ends_in[count]
     for left in reversed(range(count)):
         after = {after for state in here for after in steps[state]} & ends_in[left]
-        rows.append(min(row for row, _ in after))
+        rows.append(first(row for row, _ in after))
         here = {state for state in after if state[0] == rows[-1]}
     return rows
 
@@ -157,12 +159,79 @@ def some_plan_exists(contract):
     return any(layers(world, all_steps(world)) for world in worlds(contract))
 
 
+# The order for unit prices: the paper's own sentences, by the bounds along the very order that is judged
+
+FRONT, BEHIND = "from the front", "from behind"
+
+
+class Offer(NamedTuple):
+    item: int
+    surplus: int  # cost less value of a unit; from behind value less cost
+    need: int     # the value of a unit; from behind its cost
+
+
+class Pick(NamedTuple):
+    side: str
+    offers: list  # the items of this side that have no place yet
+    room: int     # upper less lower at the place where the item starts; from behind where it ends
+
+    def taken(self):
+        """The paper: the greatest surplus "among those whose unit value is at most upper less lower there", from behind "whose
+        unit cost"; "the lower item number is taken on a tie"."""
+        admitted = [offer for offer in self.offers if offer.need <= self.room]
+        return min(admitted, key=lambda offer: (-offer.surplus, offer.item), default=None)
+
+
+def upper(world, place):
+    return world.header.price - world.costs[-1] + world.costs[place] + world.header.supplier
+
+
+def lower(world, place):
+    return world.header.price - world.values[-1] + world.values[place] - world.header.buyer
+
+
+def sides(contract, items):
+    """The paper: "items whose unit cost is at least the unit value come first"; then "the others"."""
+    amounts = [(item, contract.costs[item - 1], contract.values[item - 1]) for item in items]
+    return ([Offer(item, cost - value, value) for item, cost, value in amounts if cost >= value],
+            [Offer(item, value - cost, cost) for item, cost, value in amounts if cost < value])
+
+
+def picks(contract, items):
+    """For each item in turn, out of what it was taken: itself and those of its side that follow; from behind those before it."""
+    first, others = sides(contract, items)
+    world = own_world(contract, items)
+    places = [sum(contract.header.units[item - 1] for item in items[:k]) for k in range(len(items) + 1)]
+    room = [upper(world, place) - lower(world, place) for place in places]
+    n = len(first)
+    return ([Pick(FRONT, first[k:], room[k]) for k in range(n)]
+            + [Pick(BEHIND, others[:k], room[n + k]) for k in range(1, len(others) + 1)])
+
+
+def is_chosen(contract, items):
+    """Whether both sides stand in their places and each item is the one that is taken there."""
+    first, others = sides(contract, items)
+    standing = first + others
+    return ([offer.item for offer in standing] == list(items)
+            and [pick.taken() for pick in picks(contract, items)] == standing)
+
+
+def judged_order(contract, found):
+    """Triples as below: of all orders of the items, which should be few, ours is the only chosen one; where there is no plan,
+    none is chosen or the start is not safe."""
+    orders = permutations(range(1, contract.header.count + 1))
+    chosen = [items for items in orders if is_chosen(contract, items) and safe(own_world(contract, items), *START)]
+    yield "the chosen orders", [found[1]] if found else [], chosen
+
+
 # A planner held to all plans
 
 def judged(contract, found):
     """What a planner found, (steps, items) or None, against all safe plans of all orders: triples of what is judged, whether
     or how it is, and how it has to be."""
     yield "whether a plan exists", found is not None, some_plan_exists(contract)
+    if contract.header.form == UNIT_PRICES:
+        yield from judged_order(contract, found)
     if found is None:
         return
     steps, items = found
@@ -172,7 +241,9 @@ def judged(contract, found):
     yield "a safe plan", is_plan(world, ways, steps), True
     yield "the number of steps", len(steps), least_count(world, rivals)
     if contract.header.form == TABLE:
-        yield "the earliest rows", [row for row, _ in steps], earliest_rows(world, ways, len(steps))
+        rows, sums = zip(*steps)
+        yield "the earliest rows", list(rows), earliest_rows(world, ways, len(steps))
+        yield "the payments", list(sums), [min(upper(world, row), world.header.price) for row in (0, *rows[:-1])]
         return
     for k, (ours, ahead) in enumerate(zip([START, *steps], greatest(rivals))):
         yield f"ahead along our order after {k} steps", ours[0] >= ahead[0] and ours[1] >= ahead[1], True
@@ -211,6 +282,8 @@ def judged_sparing(contract, found):
         return
     plans, orders = ({goal: found[goal][part] for goal in COUNTED} for part in (0, 1))
     yield "orders", len(set(orders.values())), 1
+    if contract.header.form == UNIT_PRICES:
+        yield from judged_order(contract, found["moves"])
     world = own_world(contract, orders["moves"])
     ways = all_steps(world)
     for goal, steps in plans.items():
@@ -252,3 +325,60 @@ def starts_kind(contract, found):
     if by_delivery == by_payment:
         return "both starts equal"
     return "delivery start shorter" if by_delivery < by_payment else "payment start shorter"
+
+
+# Kinds of deals that have to come up where plans and orders are judged
+
+TIE, WAITS, SEGMENTS, LATER_ROWS = "tie", "greater surplus waits", "other by whole segments", "later rows in as many steps"
+KINDS = {LADDER: (), TABLE: (LATER_ROWS,),
+         UNIT_PRICES: (*(f"{kind} {side}" for kind in (TIE, WAITS) for side in (FRONT, BEHIND)), SEGMENTS)}
+
+
+def kinds(contract, found):
+    """Which of its form's kinds a deal is of; found is (steps, items) or None."""
+    if found is None or contract.header.form == LADDER:
+        return set()
+    return order_kinds(contract, found[1]) if contract.header.form == UNIT_PRICES else table_kinds(contract, len(found[0]))
+
+
+def order_kinds(contract, items):
+    """A tie is one of the greatest surplus that is admitted. A greater surplus waits while it is not admitted."""
+    seen = {SEGMENTS} if whole_segments(contract) != items else set()
+    for pick in picks(contract, items):
+        best = pick.taken()
+        others = [offer for offer in pick.offers if offer != best]
+        if any(offer.surplus == best.surplus and offer.need <= pick.room for offer in others):
+            seen.add(f"{TIE} {pick.side}")
+        if any(offer.surplus > best.surplus for offer in others):
+            seen.add(f"{WAITS} {pick.side}")
+    return seen
+
+
+def table_kinds(contract, count):
+    world = own_world(contract)
+    ways = all_steps(world)
+    return {LATER_ROWS} if earliest_rows(world, ways, count) != earliest_rows(world, ways, count, first=max) else set()
+
+
+def whole_segments(contract):
+    """The order of document 000's SEQUENCE-SEGMENTS, the lower number on a tie, or None. Among those that the bounds admit it
+    takes the greatest difference of all units of an item together, where ours compares that of one unit."""
+    header = contract.header
+    lines = list(zip(range(1, header.count + 1), header.units, contract.costs, contract.values))
+    at_end = header.supplier + header.buyer
+    at_start = at_end - sum(units * (cost - value) for _, units, cost, value in lines)
+    first = sequenced({item: (units * (cost - value), value) for item, units, cost, value in lines if cost >= value}, at_start)
+    last = sequenced({item: (units * (value - cost), cost) for item, units, cost, value in lines if cost < value}, at_end)
+    return None if first is None or last is None else (*first, *reversed(last))
+
+
+def sequenced(segments, room):
+    """For each item the difference of its segment, and what its first unit needs."""
+    order = []
+    while segments:
+        feasible = [item for item, (_, need) in segments.items() if need <= room]
+        if not feasible:
+            return None
+        order.append(max(feasible, key=lambda item: segments[item][0]))  # the first of equal ones
+        room += segments.pop(order[-1])[0]
+    return order

@@ -80,6 +80,10 @@ STOCK_ORDER = (3, 5, 4, 1, 2)
 TWO_ORDERS_DEAL = (6, 0, 5)
 TWO_ORDERS = ((2, 3), (0, 1))
 
+# Units, cost and value of a unit, and the deal: comparing units gives another order than comparing all units of an item
+TWO_RULES_DEAL = (13, 1, 1)
+TWO_RULES = ((3, 2, 1), (1, 3, 1), (3, 1, 2), (1, 1, 3))
+
 LARGEST = 1_000_000_000
 
 
@@ -87,7 +91,7 @@ LARGEST = 1_000_000_000
 
 def examples():
     return [*case_a_and_its_changes(), case_e(), case_f(), *cases_g_and_h(), *sessions_and_cuts(),
-            two_orders(), table_3(), *stocks(), *long_ladders(), *totals()]
+            two_orders(), two_rules(), table_3(), *stocks(), *long_ladders(), *totals()]
 
 
 def case_a_and_its_changes():
@@ -117,7 +121,7 @@ def case_f():
                    ("Case F: table 3 of document 000 with P 22, cs 2, cd 2, as the writer writes it:",
                     "row 0 is blank in both maps, since the filling rule restores its 0. Units 1 and 4, ten rows.",
                     *table_3_lines()),
-                   ("Planning: 5 steps; which plan of 5 steps is open.",))
+                   ("Planning: (1, 5), (1, 10), (4, 10), (4, 22), (9, 22); of all plans of 5 steps its rows are the earliest.",))
 
 
 def table_3_lines():
@@ -155,8 +159,18 @@ def sessions_and_cuts():
 def two_orders():
     return Example("two-orders", unit_prices(TWO_ORDERS_DEAL, [(1, *item) for item in TWO_ORDERS]), 0,
                    ("Unit prices, two items of one unit each, cost and value (2, 3) and (0, 1); P 6, cs 0, cd 5.",),
-                   ("The order 1, 2 has a plan of 2 steps, the order 2, 1 one of 3.",
-                    "Either may be chosen: the count is against plans in the same order.",))
+                   ("Planning: order 2, 1; (1, 4), (2, 4), (2, 6). Both items would fill the last place equally well, so that",
+                    "the lower number does. The order 1, 2 has a plan of 2 steps: the count is against plans in the same order.",))
+
+
+def two_rules():
+    lines = (f"Item {item}: {units} unit{'s' * (units > 1)}, cost {cost}, value {value}{' each' * (units > 1)}."
+             for item, (units, cost, value) in enumerate(TWO_RULES, 1))
+    return Example("two-rules", unit_prices(TWO_RULES_DEAL, TWO_RULES), 0,
+                   ("Unit prices, four items, P 13, cs 1, cd 1.", *lines),
+                   ("Planning: order 2, 1, 3, 4; (1, 1), (2, 4), (4, 6), (5, 10), (7, 11), (7, 13), (8, 13).",
+                    "The difference of cost and value of one unit is compared. Document 000's algorithm compares that of all",
+                    "units of an item, which gives the order 1, 2, 4, 3."))
 
 
 def table_3():
@@ -164,30 +178,26 @@ def table_3():
                    ("Table 3 of document 000 with every cell given, also the zeros of row 0; P 22, cs 2, cd 2.",
                     "Units 1 (plug-in) and 4 (package), ten rows, the package running fastest.", *table_3_lines()),
                    ("The same contract as case F. Writing it again gives case F's record.",
-                    "Planning: 5 steps. Document 000's own plan of 5 steps:",
+                    "Planning: case F's plan, whose first row is 1. Document 000's own plan of 5 steps is safe too, and later:",
                     "rows 2, 3, 4, 4, 9 and paid totals 5, 14, 18, 22, 22."))
 
 
 def stocks():
     """The stock figure: its order as a ladder, and its items as they are put in."""
     ordered = [STOCKS[item - 1] for item in STOCK_ORDER]
+    rises = [(cost, value) for _, units, cost, value in ordered for _ in range(units)]
     terms = "P 2586460, cs 100000, cd 150000."
     return [
-        Example("stock-ladder", stocks_along(STOCK_ORDER), 0,
+        Example("stock-ladder", ladder(STOCK_DEAL, rises), 0,
                 ("The order of document 000's stock figure as a ladder of 240 units, amounts in cents.",
                  terms, *stock_lines(ordered)),
                 ("Planning: 17 steps; the 16 that the figure prints do not bind.",)),
         Example("stock-prices", unit_prices(STOCK_DEAL, [stock[1:] for stock in STOCKS]), 0,
                 ("The items of document 000's stock figure as unit prices, 240 units, amounts in cents.",
                  terms, *stock_lines(STOCKS)),
-                ("Planning: a plan in an order that names each item once; which order is open.",)),
+                (f"Planning: order {listed(STOCK_ORDER)}, as the figure prints; the 17 steps of the ladder in this order.",
+                 "Comparing all units of an item, as document 000's algorithm does, gives the order 3, 5, 2, 1, 4.")),
     ]
-
-
-def stocks_along(order):
-    """The stocks as a ladder, all units of the first item in the order first."""
-    rises = [(cost, value) for _, units, cost, value in (STOCKS[item - 1] for item in order) for _ in range(units)]
-    return ladder(STOCK_DEAL, rises)
 
 
 def stock_lines(some):

@@ -62,7 +62,13 @@ class SessionCase(CheckCase):
 # Goods: contracts without price and leaving costs
 
 def some_goods(rng, form, most_units, most_amount):
-    return (some_ladder, some_items, some_table)[form](rng, most_units, most_amount)
+    return goods_maker(rng, form)(rng, most_units, most_amount)
+
+
+def goods_maker(rng, form):
+    """More than half of the unit prices are items whose order is hard to pick. These meet the conditions on a small deal less
+    often than others, so that its maker is drawn once."""
+    return ranked_items if form == UNIT_PRICES and rng.random() < 0.6 else (some_ladder, some_items, some_table)[form]
 
 
 def some_ladder(rng, most_units, most_amount):
@@ -78,6 +84,23 @@ def some_items(rng, most_units, most_amount):
     units = [rng.choice((1, rng.randint(1, most))) for _ in range(count)]
     columns = ([rng.randint(0, most_amount) for _ in units] for _ in range(2))
     return Contract(Header(form=UNIT_PRICES, count=count, units=record.padded(units)), *columns)
+
+
+def ranked_items(rng, most_units, most_amount):
+    """Items that all come first, or all last. One may have more units than the others, which tells where whole segments are
+    compared. Of some a greater surplus needs more room, so that in a tight deal it has to wait."""
+    count = rng.randint(2, min(most_units, record.MOST_ITEMS[UNIT_PRICES]))
+    units = [1] * count
+    more = min(most_units - count, record.MOST_ITEM_UNITS - 1)
+    units[rng.randrange(count)] += rng.randint(min(more, 1), more)
+    amounts = [range(least, least + max(count, most_amount // 2 + 2)) for least in (0, 1)]
+    if rng.random() < 0.4:
+        needs, surplus = (sorted(rng.sample(some, count)) for some in amounts)
+    else:
+        needs, surplus = (rng.choices(some, k=count) for some in amounts)
+    lines = rng.sample([(need + gain, need) for need, gain in zip(needs, surplus)], count)
+    columns = [list(column) for column in zip(*lines)]
+    return Contract(Header(form=UNIT_PRICES, count=count, units=record.padded(units)), *rng.sample(columns, 2))
 
 
 def some_table(rng, most_rows, most_amount):
@@ -154,7 +177,7 @@ def least_leaving_costs(contract):
 
 
 def least_for_items(contract):
-    enough, too_little = MOST_MONEY, -1
+    enough, too_little = whole_rises(contract)[0], -1  # with all of the cost no upper bound is below the price
     while enough - too_little > 1:
         middle = (enough + too_little) // 2
         if planning.some_order_is_safe(with_deal(contract, 0, 0, middle)):
@@ -181,7 +204,7 @@ def large_deal(rng, form):
         columns = ([rng.randint(0, most_amount) for _ in range(units)] for _ in range(2))
         goods = Contract(Header(form=LADDER, count=units), *columns)
     elif form == UNIT_PRICES:
-        goods = some_goods(rng, form, 1_000, most_amount)
+        goods = some_items(rng, 1_000, most_amount)
     else:
         units = rng.choice(LARGE_TABLES)
         columns = (some_cells(rng, units, min(most_amount, 10_000)) for _ in range(2))
@@ -208,8 +231,9 @@ def unit_by_unit(form, units, amount=2):
 
 def tiny_deal(rng, form):
     """At most four units and a price of at most eight, for going through all plans; most have several of both."""
+    make = goods_maker(rng, form)
     while True:
-        goods = some_goods(rng, form, 9 if form == TABLE else 4, rng.choice((1, 2, 3, 4)))
+        goods = make(rng, 9 if form == TABLE else 4, rng.choice((1, 2, 3, 4)))
         units = planning.all_units(goods)
         if units > 4 or units < rng.randint(1, 4):
             continue

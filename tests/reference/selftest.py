@@ -24,7 +24,7 @@ TINY_DEALS = 3_000     # of each form
 MOST_LISTED = 300      # plans of one deal that are listed one by one
 MIDDLE_DEALS = 60      # tables with more rows and a greater price
 SPARING_DEALS = 5_000  # of each form but tables
-LEAST_OF_KIND = 200    # of these deals
+RAREST = 30            # at least one of so many deals is of each kind
 
 ROOM = 9_000           # bytes, enough for every area of the cases below but a table's work area
 WORK = 40_000
@@ -70,6 +70,9 @@ A_STEPS = [(0, 3), (1, 3), (1, 7), (2, 7), (2, 10)]
 A_RISES = [(4, 6), (4, 6)]
 F = table((22, 2, 2), (1, 4), (0, 5, 9, 13, 17, 10, 13, 16, 18, 19), (0, 3, 6, 10, 14, 6, 10, 15, 20, 26))
 G_ITEMS = [(1, 5, 3), (1, 3, 6)]
+# the surplus of a unit is greater in items 2 and 4, that of all units together in items 1 and 3
+M = unit_prices((13, 1, 1), [(3, 2, 1), (1, 3, 1), (3, 1, 2), (1, 1, 3)])
+M_STEPS = [(1, 1), (2, 4), (4, 6), (5, 10), (7, 11), (7, 13), (8, 13)]
 
 # units, cost and value of a unit in cents: MSFT, HWP, DELL, EBAY, PG; the figure delivers 3, 5, 4, 1, 2
 STOCKS = [(60, 9_081, 9_800), (30, 10_263, 10_990), (10, 4_181, 4_250), (100, 12_025, 12_725), (40, 8_510, 8_844)]
@@ -85,6 +88,10 @@ def planned(data):
 
 def steps_reply(steps, order=ZEROS):
     return "steps", steps, order
+
+
+def order_of(*items):
+    return bytes(items).ljust(8, b"\0")
 
 
 def refused(number):
@@ -109,7 +116,7 @@ def paper_cases():
     expect(planned(F), steps_reply([(1, 5), (1, 10), (4, 10), (4, 22), (9, 22)]), "F, its earliest rows")
     expect(planning.check(F, 5, *areas([(2, 5), (3, 14), (4, 18), (4, 22), (9, 22)]), ZEROS), 0, "F, the printed plan")
     expect(planned(unit_prices((8, 1, 2), G_ITEMS)),
-           steps_reply([(1, 1), (1, 6), (2, 6), (2, 8)], b"\1\2\0\0\0\0\0\0"), "G")
+           steps_reply([(1, 1), (1, 6), (2, 6), (2, 8)], order_of(1, 2)), "G")
     expect(planned(unit_prices((8, 1, 1), G_ITEMS)), refused(9), "H")
     expect(planning.check(A, 5, *areas(A_STEPS), ZEROS), 0, "A's plan is safe")
     expect(planning.check(A, 3, *areas([(0, 3), (2, 3), (2, 10)]), ZEROS), 12, "J")
@@ -140,10 +147,29 @@ def other_cases():
     rises = [STOCKS[item - 1][1:] for item in STOCK_ORDER for _ in range(STOCKS[item - 1][0])]
     along = planned(ladder(STOCK_DEAL, rises))
     expect(len(along[1]), 17, "the stock figure's order as a ladder")
-    order = bytes(STOCK_ORDER).ljust(8, b"\0")
-    expect(planned(unit_prices(STOCK_DEAL, STOCKS)), steps_reply(along[1], order), "the stock figure as unit prices")
+    expect(planned(unit_prices(STOCK_DEAL, STOCKS)), steps_reply(along[1], order_of(*STOCK_ORDER)),
+           "the stock figure as unit prices")
     longest = planning.plan_of(planning_cases.unit_by_unit(LADDER, (1_000,)))
     expect(len(longest[0]), 2_001, "2U + 1 steps")
+
+
+def orders_by_hand():
+    """The order for unit prices: ties, a greater surplus that has to wait, and whole segments, which are not compared."""
+    same, first, last = (1, 2, 2), (1, 2, 1), (1, 1, 2)
+    for what, deal, items, wanted in (
+            ("the lower number on a tie, from behind nearer the end", (6, 1, 0), [first, first, last, last], (1, 2, 4, 3)),
+            ("equal cost and value come first", (5, 1, 1), [last, same, first], (3, 2, 1)),
+            ("the greater surplus from the front", (6, 3, 3), [(1, 5, 3), first], (1, 2)),
+            ("the greater surplus waits for room", (6, 2, 3), [(1, 5, 3), first], (2, 1)),
+            ("the greater surplus from behind", (6, 2, 1), [(1, 3, 5), last], (2, 1)),
+            ("the greater surplus waits for room behind", (6, 1, 1), [(1, 3, 5), last], (1, 2))):
+        expect(planned(unit_prices(deal, items))[::2], ("steps", order_of(*wanted)), what)
+    expect(planned(M), steps_reply(M_STEPS, order_of(2, 1, 3, 4)), "M, where the surplus of a unit counts")
+    by_delivery = steps_reply([(1, 0), (1, 4), (4, 4), (4, 10), (7, 10), (7, 13), (8, 13)], order_of(2, 1, 3, 4))
+    by_payment = steps_reply([(0, 1), (2, 1), (2, 6), (5, 6), (5, 11), (7, 11), (7, 13), (8, 13)], order_of(2, 1, 3, 4))
+    expect(spared(M), [by_delivery, by_payment, by_delivery], "M, sparing, in the same order")
+    segments = [brute.whole_segments(record.parse(data)) for data in (M, unit_prices(STOCK_DEAL, STOCKS))]
+    expect(segments, [(1, 2, 4, 3), (3, 5, 2, 1, 4)], "document 000's rule has other orders, for its own stock figure too")
 
 
 def refusals_and_areas():
@@ -161,7 +187,7 @@ def refusals_and_areas():
     expect(planning.areas_after(A, refused(9), *lent), (*lent[:3], bytes(3)), "areas after 9")
     for number in (1, 2, 3, 4, 5, 6, 7, 8):
         expect(planning.areas_after(A, refused(number), *lent), lent, f"areas after {number}")
-    g, two, one = unit_prices((8, 1, 2), G_ITEMS), b"\2\1\0\0\0\0\0\0", b"\1\1\0\0\0\0\0\0"
+    g, two, one = unit_prices((8, 1, 2), G_ITEMS), order_of(2, 1), order_of(1, 1)
     expect([planning.bounds(g, place, two) for place in range(3)], [(-3, 1), (3, 4), (6, 9)], "G's bounds, other order")
     expect(planning.bounds(g, 1, two + b"\5"), (3, 4), "a ninth order byte does not count")
     expect((planning.bounds(g, 3, one[:7]), planning.bounds(g, 3, one), planning.bounds(g, 2, one)),
@@ -183,7 +209,7 @@ def sparing_cases_by_hand():
     c_steps = [(1, 0), (1, 4), (2, 4), (2, 7)]
     expect(spared(ladder((7, 1, 3), A_RISES)), [steps_reply(c_steps)] * 3, "C, sparing: no first payment")
     expect(spared(ladder((0, 0, 0), [(0, 0)])), [steps_reply([(1, 0)])] * 3, "E, sparing")
-    one_two = b"\1\2\0\0\0\0\0\0"
+    one_two = order_of(1, 2)
     by_delivery = steps_reply([(1, 0), (1, 6), (2, 6), (2, 8)], one_two)
     by_payment = steps_reply([(0, 1), (1, 1), (1, 6), (2, 6), (2, 8)], one_two)
     expect(spared(unit_prices((8, 1, 2), G_ITEMS)), [by_delivery, by_payment, by_delivery], "G, sparing: two payments are enough")
@@ -215,7 +241,7 @@ def sparing_refusals_and_areas():
 
 
 def sparing_deals(rng):
-    """Against all safe plans in the same order; each kind of start has to come up."""
+    """Against all safe plans in the same order; each kind of start and of order has to come up."""
     for form in LADDER, UNIT_PRICES:
         seen = Counter()
         for _ in range(SPARING_DEALS):
@@ -223,14 +249,18 @@ def sparing_deals(rng):
             found = {goal: sparing.plan_of(goal, contract) for goal in sparing.GOALS}
             for what, got, wanted in brute.judged_sparing(contract, found):
                 expect(got, wanted, f"{what}: {contract} {found}")
-            seen[brute.starts_kind(contract, found)] += 1
-        expect([kind for kind in brute.START_KINDS if seen[kind] < LEAST_OF_KIND], [], f"kinds that are too rare: {seen}")
+            seen.update([brute.starts_kind(contract, found), *brute.kinds(contract, found[sparing.MOVES])])
+        all_kinds(seen, brute.START_KINDS + brute.KINDS[form], SPARING_DEALS)
+
+
+def all_kinds(seen, kinds, deals):
+    expect([kind for kind in kinds if seen[kind] < deals / RAREST], [], f"kinds that are too rare: {seen}")
 
 
 # Tiny deals against all plans
 
 def tiny_deal(rng, contract):
-    """What the planner says of one deal, against all safe plans of all orders."""
+    """What the planner says of one deal, against all safe plans of all orders; of which kinds the deal is."""
     found = planning.plan_of(contract)
     for what, got, wanted in brute.judged(contract, found):
         expect(got, wanted, f"{what}: {contract} {found}")
@@ -239,6 +269,7 @@ def tiny_deal(rng, contract):
         ways = brute.all_steps(world)
         listed_plans(contract, world, ways, brute.layers(world, ways))
         changed_plans(rng, contract, world, ways)
+    return brute.kinds(contract, found)
 
 
 def listed_plans(contract, world, ways, layers):
@@ -264,36 +295,12 @@ def changed_plans(rng, contract, world, ways):
         expect(number, 0 if brute.is_plan(world, ways, states) else 12, f"{change.__name__}: {contract} {states}")
 
 
-def picks_of_units(contract):
-    """The order for unit prices once more, unit by unit from the bounds: each pick is the best that was admitted."""
-    found = planning.plan_of(contract)
-    if found is None:
-        return
-    items = found[1]
-    deal = planning.deal_of(contract, items)
-    gap = [upper - lower for lower, upper in zip(deal.lower, deal.upper)]
-    gains = [item for item in items if gain(contract, item) >= 0]
-    expect(items[:len(gains)], tuple(gains), f"gaining items come first: {contract}")
-    ends = [sum(contract.header.units[item - 1] for item in items[:k]) for k in range(len(items) + 1)]
-    for k, item in enumerate(items):
-        if k < len(gains):
-            others = [i for i in items[k:len(gains)] if contract.values[i - 1] <= gap[ends[k]]]
-        else:
-            others = [i for i in items[len(gains):k + 1] if contract.costs[i - 1] <= gap[ends[k + 1]]]
-        expect(item, min(others, key=lambda i: (-abs(gain(contract, i)), i)), f"pick {k + 1}: {contract}")
-
-
-def gain(contract, item):
-    return contract.costs[item - 1] - contract.values[item - 1]
-
-
 def tiny_deals(rng):
     for form in (LADDER, UNIT_PRICES, TABLE):
+        seen = Counter()
         for _ in range(TINY_DEALS):
-            contract = planning_cases.tiny_deal(rng, form)
-            tiny_deal(rng, contract)
-            if form == UNIT_PRICES:
-                picks_of_units(contract)
+            seen.update(tiny_deal(rng, planning_cases.tiny_deal(rng, form)))
+        all_kinds(seen, brute.KINDS[form], TINY_DEALS)
 
 
 def middle_tables(rng):
@@ -318,7 +325,8 @@ def generated_plans(seed):
 
 
 def generated_plan(case, contract):
-    """Whether a plan exists, by the least leaving costs; and the areas give back a plan that the check takes."""
+    """Whether a plan exists, by the least leaving costs; its order, or its rows; and the areas give back a plan that the check
+    takes."""
     lent = case.places, case.sums, case.order, case.work
     reply = planning.plan(case.record, *map(len, lent))
     after = planning.areas_after(case.record, reply, *lent)
@@ -330,6 +338,8 @@ def generated_plan(case, contract):
         if contract.header.form == TABLE:
             rows = [row for row, _ in reply[1]] if reply[0] == "steps" else None
             expect(rows, rows_by_needs(contract), f"fewest steps, earliest rows: {case}")
+        elif contract.header.form == UNIT_PRICES and reply[0] == "steps":
+            expect(brute.is_chosen(contract, reply[2][:contract.header.count]), True, f"the chosen order: {case}")
     return reply
 
 
@@ -465,6 +475,7 @@ def main():
     paper_cases()
     case_i()
     other_cases()
+    orders_by_hand()
     refusals_and_areas()
     sparing_cases_by_hand()
     sparing_refusals_and_areas()

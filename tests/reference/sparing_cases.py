@@ -12,6 +12,7 @@ from record import LADDER, TABLE, UNIT_PRICES
 from record_cases import FORMS, in_turn
 
 MOST_UNITS = {LADDER: 5, UNIT_PRICES: 4}
+TIGHT = {LADDER: 0.4, UNIT_PRICES: 0.6}  # how many of the deals are tight
 MOST_PRICE, MOST_LEAVING_COST = 10, 4
 MOST_ORDER = 12  # bytes of an order area, of which eight count
 
@@ -19,11 +20,12 @@ MOST_ORDER = 12  # bytes of an order area, of which eight count
 def small_deal(rng, form):
     """Some leaving costs are about the least with which a plan exists, so that plans have many steps; others are any. Most
     prices are well within the range in which the start is safe, so that often both sides can move first."""
+    make = planning_cases.goods_maker(rng, form)
     while True:
-        goods = planning_cases.some_goods(rng, form, MOST_UNITS[form], rng.choice((1, 2, 3, 4)))
+        goods = make(rng, MOST_UNITS[form], rng.choice((1, 2, 3, 4)))
         if planning.all_units(goods) < rng.randint(1, MOST_UNITS[form]):
             continue
-        contract = planning_cases.tight(rng, goods) if rng.random() < 0.4 else evenly_priced(rng, goods)
+        contract = planning_cases.tight(rng, goods) if rng.random() < TIGHT[form] else evenly_priced(rng, goods)
         if contract.header.price <= MOST_PRICE:
             return contract
 
