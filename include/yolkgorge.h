@@ -71,7 +71,14 @@ static inline uint32_t yolkgorge_sum_at(const uint8_t *sums, size_t k) {
  * On success the first n entries of `places` and `sums` are the plan, and all entries after them are zero. The first
  * eight bytes of `order` name the order in which the items of unit prices are delivered, by their numbers from 1 and then
  * zeros; for a ladder and a table they are all zero. The whole work area is zero.
- * No safe plan in that order has fewer steps; for a table, no safe plan in any order. */
+ * No safe plan in that order has fewer steps; for a table, no safe plan in any order.
+ *
+ * The same record gives the same plan at every desk: answer and areas are fixed to the last byte.
+ *   Unit prices: items whose unit cost is at least the unit value come first. Each time it is the one with the greatest cost
+ *   less value of a unit, of those whose unit value is at most upper less lower (yolkgorge_bounds) at the place reached. The
+ *   others fill the order from its end: each time the greatest value less cost of a unit, of those whose unit cost is at most
+ *   upper less lower at the place after it. On a tie the lower item number is taken.
+ *   Table: of the safe plans with fewest steps, the one whose list of rows is earliest, compared from the first step. */
 int64_t yolkgorge_plan(const uint8_t *record, size_t record_len, uint8_t *places, size_t places_len, uint8_t *sums,
                        size_t sums_len, uint8_t *order, size_t order_len, uint8_t *work, size_t work_len);
 
@@ -84,8 +91,9 @@ int64_t yolkgorge_plan(const uint8_t *record, size_t record_len, uint8_t *places
  *                                     starts with a payment if both have equally many.
  * They may take more steps than yolkgorge_plan, but at most YOLKGORGE_MOST_STEPS(U).
  *
- * Answers and areas are those of yolkgorge_plan, without a work area: the number of steps, or minus the number of a refusal
- * (1 to 9; 2 also for every table, ahead of 8: ask yolkgorge_plan). 9 means here as there that no safe plan exists at all. */
+ * Answers, areas and order are those of yolkgorge_plan, without a work area: the number of steps, or minus the number of a
+ * refusal (1 to 9; 2 also for every table, ahead of 8: ask yolkgorge_plan). 9 means here as there that no safe plan exists at
+ * all. */
 int64_t yolkgorge_plan_fewest_payments(const uint8_t *record, size_t record_len, uint8_t *places, size_t places_len,
                                        uint8_t *sums, size_t sums_len, uint8_t *order, size_t order_len);
 int64_t yolkgorge_plan_fewest_deliveries(const uint8_t *record, size_t record_len, uint8_t *places, size_t places_len,
