@@ -18,7 +18,7 @@ use Rattle.exchange.specs.Chosen.{IsChosen}
 use Rattle.exchange.specs.declared.Objective.{Objective}
 use Rattle.exchange.specs.declared.Planned as exchange
 use Rattle.exchange.specs.declared.Sides.{Sides}
-use Rattle.choice.specs.Promise.{numbered, NamesChosen, Chooses}
+use Rattle.choice.specs.Promise.{numbered, ChosenItems, Chooses}
 use Rattle.choice.specs.declared.Chosen.{Chosen}
 use Rattle.line.specs.Promise as line
 use Rattle.line.specs.Segments.{dealAlong}
@@ -123,7 +123,7 @@ module _ (s : Sides) (us cs vs : List ℕ) (v : Valid (contractWith UnitPrices s
     abbrev segments : Deal
     segments = dealAlong s (take (length us - 0) us′) (take (length us - 0) cs′) (take (length us - 0) vs′)
 
-    found : NamesChosen s us cs vs (r .order)
+    found : ChosenItems s us cs vs (r .order)
     found = rw f at (e .answers)
 
     pub prices-can : (a : Areas) → roomFor pricesOf a ≡ true → CanPlan (take (length us - 0) us′) (take (length us - 0) cs′) (take (length us - 0) vs′) a

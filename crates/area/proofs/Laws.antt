@@ -112,14 +112,6 @@ pub sets-append : (s : List ℕ) (i : ℕ) (a b : List ℕ) → sets (sets s i a
 sets-append s i [] b = rw add-zero
 sets-append s i (x ∷ a) b = rw (add-suc, ← suc-add) (sets-append (set s i x) (suc i) a b)
 
--- what is stored is read back
-pub num-sets : (w : ℕ) (s : List ℕ) (i v : ℕ) → i + w ≤ length s → v < 256 ^ w → num w (sets s i (digits w v)) i ≡ v
-num-sets w s i v h l =
-    let size : length (digits w v) ≡ w = digits-length w v in
-    num-part w _ i v
-    (rw (sets-eq (digits w v) s i (omega arith), append-assoc, drop-at (take i s) _ i (length-take-le i s (omega arith))) (take-at _ _ w size))
-    l
-
 -- ---- reads and stores where there is room, and past the end
 
 pub numAt-room : (w : ℕ) (s : List ℕ) (i : ℕ) → i + w ≤ length s → numAt w s i ≡ num w s i

@@ -12,15 +12,15 @@ use Rattle.choice.specs.declared.Chosen.{Chosen}
 abbrev pub numbered : List ℕ → List ℕ
 numbered l = map suc l ++ replicate (8 - length l) 0
 
--- order bytes that name the items in the chosen order
-pub record NamesChosen (p : Sides) (units costs values order : List ℕ) : Type 0 where
+-- the items in the chosen order, and the order bytes that name them
+pub record ChosenItems (p : Sides) (units costs values order : List ℕ) : Type 0 where
   pub items : List ℕ
   pub chosen : IsChosen p units costs values items
   pub order-is : order ≡ numbered items
 
 -- by whether an order is found: the bytes name it; else there is none, or there are more than eight items, and the bytes are zero
 abbrev pub Answers : Sides → List ℕ → List ℕ → List ℕ → Bool → List ℕ → Type 0
-Answers p units costs values true order = NamesChosen p units costs values order
+Answers p units costs values true order = ChosenItems p units costs values order
 Answers p units costs values false order =
     (order ≡ replicate 8 0) × (length units ≤ 8 → (items : List ℕ) → IsChosen p units costs values items → ⊥)
 

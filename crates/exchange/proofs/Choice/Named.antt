@@ -125,6 +125,3 @@ module _ (units bs : List ℕ) (l : length bs ≡ length units) (e : eachOnce (l
   named-order =
       once-order units (map (λ b. b - 1) bs)
       (λ j h. occurs-named j bs (λ i p. each-below (length units) bs (omega arith) e i p .0) ∙ each-occurs (length units) bs e j h)
-
-  pub named-length : length (together units (map (λ b. b - 1) bs)) ≡ foldr _+_ 0 units
-  named-length = order-length units (together units (map (λ b. b - 1) bs)) named-order
