@@ -12,6 +12,7 @@ use lib.ListN.{length, getD}
 use borrow.Author.Tests.{not-true, not-false}
 use Rattle.area.specs.Entries.{entries}
 use Rattle.grid.specs.Rows.{rowsOf}
+use Rattle.grid.specs.Units.{Small, RowUnits}
 use Rattle.grid.proofs.RowLaws.{rows-pos}
 use Rattle.contract.specs.Res.{refused}
 use Rattle.contract.specs.Valid.{Valid}
@@ -25,11 +26,12 @@ use Rattle.exchange.proofs.GivenOrder.Run.{state-eq}
 use Rattle.exchange.proofs.FormLaws.{table-rising}
 use Rattle.exchange.proofs.PlanInLaws.{entryIn, plan-none, plan-step, plan-next, plan-end}
 use Rattle.exchange.proofs.TestLaws.{step↔}
+use Rattle.held.specs.Words.{holdsWord}
+use Rattle.held.proofs.WordLaws.{held-word}
 use Rattle.line.specs.CheckCode.{passes}
 use Rattle.line.proofs.CheckLaws.{passes-step}
-use Rattle.search.specs.Units.{RowUnits}
 use Rattle.planning.specs.Deals.{contractWith}
-use Rattle.planning.proofs.TablePlan.{costs-rows, values-rows, few-rows, cells-rise}
+use Rattle.planning.proofs.TablePlan.{few-items, costs-rows, values-rows, few-rows, cells-rise}
 use Rattle.bounds.specs.Places.{rowBounds}
 use Rattle.checks.specs.Brought.{Brought, Ready}
 use Rattle.checks.specs.declared.rows.Terms.{Terms}
@@ -71,8 +73,14 @@ module _ {t : Terms} {us held cs vs : List ℕ} (valid : Valid (contractWith Tab
     pub fails : not r ≡ true → false ≡ isStep (holdsRow us a b)
     fails y = decides (holdsRow us a b) bounds-rise .0 y
 
-    pub held-decides : not r ≡ false → {h : Bool} → h ≡ holdsRow us a b → h ≡ isStep (holdsRow us a b)
-    held-decides y k = k ∙ decides (holdsRow us a b) bounds-rise .1 y
+    -- the words of the rows compare their units
+    pub held-decides : not r ≡ false → {h : Bool} → h ≡ holdsWord 4 (getD held a 0) (getD held b 0) → h ≡ isStep (holdsRow us a b)
+    held-decides y k =
+        let lc = costs-rows (t .sides) us cs vs valid in
+        let few : Small us = record { items = few-items (t .sides) us cs vs valid; rows = few-rows (t .sides) us cs vs valid } in
+        k
+        ∙ rw (ready .units-held .word-at a (omega arith), ready .units-held .word-at b (omega arith)) (held-word us a b few)
+        ∙ decides (holdsRow us a b) bounds-rise .1 y
 
 -- ---- a brought plan, step by step
 
@@ -95,20 +103,19 @@ module _ (s : Sides) (us cs vs : List ℕ) (n : ℕ) (places sums : List ℕ) wh
     pub some-rows : 0 < length cs
     some-rows = omega (arith, costs-rows s us cs vs (b .valid), rows-pos us)
 
-    pub few-costs : length cs ≤ 128
-    few-costs = omega (arith, costs-rows s us cs vs (b .valid), few-rows s us cs vs (b .valid))
-
     pub last-value : length cs - 1 < length vs
     last-value = omega (arith, some-rows, costs-rows s us cs vs (b .valid), values-rows s us cs vs (b .valid))
 
+    pub small : Small us
+    small = record { items = few-items s us cs vs (b .valid); rows = few-rows s us cs vs (b .valid) }
+
     -- the tests can be made
-    pub ready : {held : List ℕ} → RowUnits us held (length cs - 1 + 1)
+    pub ready : {held : List ℕ} → RowUnits us held (rowsOf us)
         → Ready (record { sides = s; all = record { units = length cs - 1; cost = getD cs (length cs - 1) 0; value = getD vs (length cs - 1) 0 } }) us held cs vs
     ready {held} u =
         let lc = costs-rows s us cs vs (b .valid) in
         let lv = values-rows s us cs vs (b .valid) in
-        let rows : length cs - 1 + 1 ≡ rowsOf us = omega (arith, some-rows) in
-        record { units-held = subst (λ (m : ℕ). RowUnits us held m) rows u; cost-is = refl; value-is = rw (lc, lv) }
+        record { units-held = u; cost-is = refl; value-is = rw (lc, lv) }
 
     places-hold : n ≤ length (entries 2 places)
     places-hold = held-entries n places sums (b .held) .0

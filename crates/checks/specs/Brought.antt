@@ -5,9 +5,9 @@ use mathlib.Core.List.{List}
 use Prim.Native.Nat.{ℕ, _-_}
 use lib.ListN.{length, getD}
 use Rattle.grid.specs.Rows.{rowsOf}
+use Rattle.grid.specs.Units.{RowUnits}
 use Rattle.contract.specs.Contract.{Contract}
 use Rattle.contract.specs.Valid.{Valid}
-use Rattle.search.specs.Units.{RowUnits}
 use Rattle.planning.specs.Check.{holdsCount}
 use Rattle.checks.specs.declared.rows.Terms.{Terms}
 

@@ -26,7 +26,7 @@ struct Terms {
 fn is_step(
     t: Terms,
     units: &[u16],
-    held: &[u8; 512],
+    held: &[u32; 128],
     costs: &[u32],
     values: &[u32],
     from: usize,
@@ -40,14 +40,14 @@ fn is_step(
     if !line::is_step(t.sides, t.all, costs[from], values[to], p, q) {
         return false;
     }
-    search::row_holds(units, held, from, to)
+    held::word_holds(held[from], held[to])
 }
 
 // Whether the first entries of the areas are steps over the rows from the start to the end, by the units of the rows.
 fn follow_steps(
     t: Terms,
     units: &[u16],
-    held: &[u8; 512],
+    held: &[u32; 128],
     costs: &[u32],
     values: &[u32],
     count: usize,
@@ -105,6 +105,6 @@ pub(crate) fn follow(
             value: values[last],
         },
     };
-    let held = search::all_units(units, last + 1);
+    let held = grid::all_units(units);
     follow_steps(t, units, &held, costs, values, count, places, sums)
 }

@@ -6,6 +6,7 @@ pub mod TableLaws
 pub mod FormLaws
 -- the code's tests
 pub mod Machine
+pub mod CoinLaws
 pub mod TestLaws
 -- planning along a given order, choosing an order of units, and planning over the rows of a table
 pub mod GivenOrder

@@ -1,8 +1,9 @@
 // The numbers of a deal, the answers of planning, the bounds of a place, and the test of a state.
 ghost use mathlib.Core.Path.{_≡_};
-ghost use Prim.Native.Nat.{_<_, _^_};
+ghost use Prim.Native.Nat.{min, _<_, _^_};
 ghost use lib.IntN.{subℕ};
 ghost use Rattle.exchange.specs.Bounds.{upperOf, lowerOf};
+ghost use Rattle.exchange.specs.Rule.{coins};
 ghost use Rattle.exchange.specs.Test.{safeTest};
 
 // P and the defection costs of the supplier and the buyer.
@@ -60,6 +61,31 @@ pub fn lower(price: u32, value_last: u32, value_here: u32, buyer: u32) -> i64
         price as u64 + value_here as u64,
         value_last as u64 + buyer as u64,
     )
+}
+
+// The most that is paid at a place: the smaller of its upper bound and the price, and nothing where that bound is below 0.
+pub fn most_paid(price: u32, cost_last: u32, cost_here: u32, supplier: u32) -> u32
+    ensures { λ r. ⌜ r ≡ min (coins (upperOf price «cost_last» «cost_here» supplier)) price ⌝ }
+{
+    let bound = upper(price, cost_last, cost_here, supplier);
+    if bound < 0 {
+        return 0;
+    }
+    if bound < price as i64 {
+        return bound as u32;
+    }
+    price
+}
+
+// The least that is paid at a place: the greater of its lower bound and 0.
+pub fn least_paid(price: u32, value_last: u32, value_here: u32, buyer: u32) -> u64
+    ensures { λ r. ⌜ r ≡ coins (lowerOf price «value_last» «value_here» buyer) ⌝ }
+{
+    let bound = lower(price, value_last, value_here, buyer);
+    if bound < 0 {
+        return 0;
+    }
+    bound as u64
 }
 
 // Whether the state (place, paid) is safe, by the bounds of its place.

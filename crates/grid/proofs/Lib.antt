@@ -1,4 +1,6 @@
 pub mod RowLaws
+pub mod UnitLaws
+pub mod BelowLaws
 pub mod MapLaws
 pub mod RiseLaws
 pub mod FillLaws

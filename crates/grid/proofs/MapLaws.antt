@@ -3,11 +3,10 @@ use mathlib.Core.Path.{_≡_, refl, sym, ap, _∙_}
 use mathlib.Core.Bool.{false}
 use mathlib.Core.List.{List, [], _∷_}
 use Prim.Native.Nat.{ℕ, zero, suc, _+_, _-_, _*_, _/_, _%_, _^_, _≤_, _<_}
-use native.Mathlib.Nat.{add-zero, add-suc, zero-add, lt-of-lt-of-le, div-lt-iff-lt-mul, div-eq-of-lt, div-div-eq-div-mul, div-add-mod', div-one, zero-div, pow-suc, pow-succ', mod-eq-of-lt, one-mul}
+use native.Mathlib.Nat.{add-zero, add-suc, zero-add, lt-of-lt-of-le, div-lt-iff-lt-mul, div-eq-of-lt, div-div-eq-div-mul, div-one, zero-div, one-mul}
 use native.Mathlib.Omega.{arith}
 use native.Mathlib.Decide.{ℕ-discrete}
-use borrow.Author.Tests.{eqb-false, ne-eqb}
-use lib.Dec.{eqb}
+use borrow.Author.Tests.{eqb-false}
 use lib.ListN.{length, getD, take, List·getD-eq-default}
 use lib.Seq.{getD-take}
 use lib.Count.{ones, ones-step}
@@ -113,52 +112,8 @@ count-rows map n h l e =
     sym (bits-counted map h) ∙ ap (standing map) d
     ∙ standing-more map n (8 * length map - n) (λ r p q. bit-clear map n r e p (omega arith))
 
--- ---- every row stands
-
--- the first k bits of a byte stand if adding 1 carries past them
-low-bits : (b k m j : ℕ) → b + 1 ≡ m * 2 ^ k → j < k → b / 2 ^ j % 2 ≡ 1
-low-bits b zero m j e h = absurd (omega arith)
-low-bits b (suc k) m zero e h =
-    let q : b + 1 ≡ m * (2 ^ k * 2) = rw (← pow-suc) e in
-    rw div-one (omega arith)
-low-bits b (suc k) m (suc j) e h =
-    let q : b + 1 ≡ m * (2 ^ k * 2) = rw (← pow-suc) e in
-    rw (pow-succ', ← div-div-eq-div-mul) (low-bits (b / 2) k m j (omega arith) (omega arith))
-
--- byte i, of which adding 1 carries past the first k bits
-module _ (map : List ℕ) (i k : ℕ) (e : (getD map i 0 + 1) % 2 ^ k ≡ 0) (h : k ≤ 8) where
-  bit-stands : (j : ℕ) → j < k → bitAt map (8 * i + j) ≡ 1
-  unfolding bitAt
-  bit-stands j l =
-      let q : (8 * i + j) / 8 ≡ i = omega arith in
-      let m : (8 * i + j) % 8 ≡ j = omega arith in
-      let whole : getD map i 0 + 1 ≡ (getD map i 0 + 1) / 2 ^ k * 2 ^ k = omega (arith, div-add-mod' (getD map i 0 + 1) (2 ^ k)) in
-      rw (q, m) (low-bits (getD map i 0) k ((getD map i 0 + 1) / 2 ^ k) j whole l)
-
-  -- after rows that all stand, the first rows of the byte do
-  stand-on : standing map (8 * i) ≡ 8 * i → (j : ℕ) → j ≤ k → standing map (8 * i + j) ≡ 8 * i + j
-  unfolding standing
-  stand-on s zero l = rw add-zero s
-  stand-on s (suc j) l = rw add-suc (omega (arith, stand-on s j (omega arith), bit-stands j l))
-
-pub whole-stands : (map : List ℕ) (i : ℕ) → standing map (8 * i) ≡ 8 * i → getD map i 0 ≡ 255 → standing map (8 * (i + 1)) ≡ 8 * (i + 1)
-whole-stands map i s e =
-    let n : 8 * (i + 1) ≡ 8 * i + 8 = omega arith in
-    rw n (stand-on map i 8 (rw e) (omega arith) s 8 (omega arith))
-
-pub part-stands : (map : List ℕ) (n : ℕ) → standing map (8 * (n / 8)) ≡ 8 * (n / 8) → (getD map (n / 8) 0 + 1) % 2 ^ (n % 8) ≡ 0 → standing map n ≡ n
-part-stands map n s e =
-    let q : 8 * (n / 8) + n % 8 ≡ n = omega arith in
-    rw q at (stand-on map (n / 8) (n % 8) e (omega arith) s (n % 8) (omega arith))
+-- ---- a bit
 
 -- 1 shifted by k stays below the word's end
 pub shifted : (k w : ℕ) → k < w → 1 * 2 ^ k % 2 ^ w ≡ 2 ^ k
 shifted k w h = shl-exact 1 k w (omega arith) (omega arith) ∙ one-mul (2 ^ k)
-
--- past the end of a map no row before row n stands in its byte, unless there is none
-pub part-past : (map : List ℕ) (n : ℕ) → length map ≤ n / 8 → eqb (n % 8) 0 ≡ eqb ((getD map (n / 8) 0 + 1) % 2 ^ (n % 8)) 0
-part-past map n h = rw (List·getD-eq-default map 0 {n = n / 8} h) (go (n % 8))
-  where
-    go : (k : ℕ) → eqb k 0 ≡ eqb ((0 + 1) % 2 ^ k) 0
-    go zero = refl
-    go (suc k) = rw (mod-eq-of-lt {n = 0 + 1} {m = 2 ^ suc k} (omega (arith, pow-pos k, pow-suc 2 k))) (ne-eqb (suc k) 0 (λ (e : suc k ≡ 0). omega arith))

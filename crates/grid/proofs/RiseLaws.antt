@@ -3,31 +3,19 @@ use mathlib.Core.Path.{_≡_, refl, sym, ap, ap₂, _∙_}
 use mathlib.Core.Bool.{Bool, true, false, cond, _&&_, and-true}
 use mathlib.Core.List.{List, [], _∷_}
 use Prim.Native.Nat.{ℕ, zero, suc, _+_, _-_, _*_, _/_, _%_, _≤_, _<_, max}
-use native.Mathlib.Nat.{add-assoc, div-add-mod, div-lt-iff-lt-mul, le-div-iff-mul-le, mod-lt, mod-self, mod-eq-of-lt, mul-add, mul-add-mod-self-left, mul-assoc, mul-comm, mul-zero, mul-suc, mul-le-mul-left, le-mul-of-pos-right}
+use native.Mathlib.Nat.{add-assoc, add-mod-right, add-suc, add-zero, zero-add, le-mul-of-pos-right, mod-add-mod, mod-eq-of-lt, mod-eq-sub-mod, mod-lt, mul-mod-right, mul-zero, sub-zero, zero-mod}
 use native.Mathlib.Numerals.{add-one}
 use native.Mathlib.Decide.{decLt}
 use native.Mathlib.Omega.{arith}
 use borrow.Author.Tests.{lt-ltb, le-leb, lt-leb}
 use lib.Dec.{ltb, leb}
-use lib.ListN.{length, getD, drop}
+use lib.ListN.{length, getD, take, drop}
 use lib.Seq.{drop-cons, drop-length}
 use Rattle.grid.specs.Rows.{rowsOf, lessOne, largestBelow, rising}
-use Rattle.grid.specs.Rise.{risingIn}
-use Rattle.grid.proofs.RowLaws.{rows-pos, rows-end, rows-turn, largest-drop}
+use Rattle.grid.specs.Rise.{risingIn, runRises, Rounds}
+use Rattle.grid.proofs.RowLaws.{rest-mul, rows-pos, rows-drop, rows-split, rows-end, rows-turn}
 
 -- ---- rounds of k * n rows
-
--- the rest by a product, digit by digit
-rest-mul : (r k n : ℕ) → 0 < k → 0 < n → r % (k * n) ≡ k * (r / k % n) + r % k
-rest-mul r k n a b =
-    let q : ℕ = r / k in
-    let d : ℕ = q % n in
-    let low : r % k < k = mod-lt r a in
-    let high : d < n = mod-lt q b in
-    let in-round : k * d + k ≤ k * n = rw mul-suc at (mul-le-mul-left k high) in
-    let split : r ≡ k * n * (q / n) + (k * d + r % k) =
-    sym (div-add-mod r k) ∙ ap (λ (x : ℕ). k * x + r % k) (sym (div-add-mod q n)) ∙ rw (mul-add, ← mul-assoc, add-assoc) in
-    ap (λ (x : ℕ). x % (k * n)) split ∙ mul-add-mod-self-left (k * n) (q / n) (k * d + r % k) ∙ mod-eq-of-lt (omega arith)
 
 -- a row has a unit of an item, which takes k rows a unit, if it is k rows or more into the round
 unit-test : (r k n : ℕ) → 0 < k → 0 < n → ltb 0 (r / k % n) ≡ leb k (r % (k * n))
@@ -39,10 +27,6 @@ unit-test r k n a b = rw (rest-mul r k n a b) (go (decLt 0 (r / k % n)))
         let z : r / k % n ≡ 0 = omega arith in
         let m : r % k < k = mod-lt r a in
         rw z (rw mul-zero (sym (lt-leb k (0 + r % k) (omega arith))))
-
--- one row on
-pub round-next : (i round : ℕ) → i + 1 ≡ round → 0 ≡ (i + 1) % round
-round-next i round e = rw e (sym (mod-self round))
 
 -- ---- rising, and one item more
 
@@ -84,30 +68,82 @@ unfolding rising largestBelow
 rising-none cells zero = refl
 rising-none cells (suc n) = rw (rising-none cells n, le-leb 0 (getD cells n 0) (omega arith))
 
--- items whose unit is more rows than there are do not count
-rising-drop : (j : ℕ) (us cells : List ℕ) (n : ℕ) → n ≤ rowsOf (drop j us) → rising us cells n ≡ rising (drop j us) cells n
-unfolding rising
-rising-drop j us cells zero h = refl
-rising-drop j us cells (suc n) h =
-    ap₂ _&&_ (rising-drop j us cells n (omega arith)) (ap (λ (b : ℕ). leb b (getD cells n 0)) (largest-drop j us cells n (omega arith)))
+-- ---- a round, row by row
 
--- ---- the walk over the rows
+and-assoc : (a b c : Bool) → ((a && b) && c) ≡ (a && (b && c))
+and-assoc true b c = refl
+and-assoc false b c = refl
 
-pub rise-turn : (k round r : ℕ) (cells : List ℕ) {i : ℕ} (b : Bool) {b′ : Bool} → b ≡ risingIn k round cells r → i ≡ r % round
-    → b′ ≡ (b && leb (cond (leb k i) (getD cells (r - k) 0) 0) (getD cells r 0)) → b′ ≡ risingIn k round cells (r + 1)
+-- one row more of a run
+pub run-turn : (k from r : ℕ) (cells : List ℕ) (b : Bool) {b′ : Bool} → from ≤ r → b ≡ runRises k cells from (r - from)
+    → b′ ≡ (b && leb (getD cells (r - k) 0) (getD cells r 0)) → b′ ≡ runRises k cells from (r + 1 - from)
+unfolding runRises
+run-turn k from r cells b h e f =
+    let n : r + 1 - from ≡ suc (r - from) = omega arith in
+    let at : from + (r - from) ≡ r = omega arith in
+    rw (n, at, ← e) f
+
+module _ (k round : ℕ) (cells : List ℕ) (start : ℕ) (h : k ≤ round) (z : start % round ≡ 0) where
+  row-in : (i : ℕ) → i < round → (start + i) % round ≡ i
+  row-in i l = sym (mod-add-mod start round i) ∙ rw (z, zero-add) (mod-eq-of-lt l)
+
+  -- nothing is compared in the first k rows
+  before-run : (i : ℕ) → i ≤ k → risingIn k round cells (start + i) ≡ risingIn k round cells start
+  unfolding risingIn
+  before-run zero l = rw add-zero
+  before-run (suc i) l =
+      rw (add-suc start i, before-run i (omega arith), row-in i (omega arith), lt-leb k i l, le-leb 0 (getD cells (start + i) 0) (omega arith))
+      (and-true (risingIn k round cells start))
+
+  -- after them all are
+  in-run : (n : ℕ) → k + n ≤ round → risingIn k round cells (start + k + n) ≡ (risingIn k round cells start && runRises k cells (start + k) n)
+  unfolding risingIn runRises
+  in-run zero l = rw (add-zero, before-run k (omega arith)) (sym (and-true (risingIn k round cells start)))
+  in-run (suc n) l =
+      let row : (start + k + n) % round ≡ k + n = rw add-assoc (row-in (k + n) (omega arith)) in
+      rw (add-suc (start + k) n, in-run n (omega arith), row, le-leb k (k + n) (omega arith))
+      (and-assoc (risingIn k round cells start) (runRises k cells (start + k) n) (leb (getD cells (start + k + n - k) 0) (getD cells (start + k + n) 0)))
+
+-- ---- the walk over the rounds
+
+-- the rounds before row `start` are passed, and those from it on are whole
+pub record Passed (cells : List ℕ) (k round start : ℕ) (rises : Bool) : Type 0 where
+  pub within : start ≤ length cells
+  pub whole : start % round ≡ 0
+  pub rest : (length cells - start) % round ≡ 0
+  pub rises-are : rises ≡ risingIn k round cells start
+
+pub passed-start : {cells : List ℕ} {k round : ℕ} → Rounds cells k round → Passed cells k round 0 true
 unfolding risingIn
-rise-turn k round r cells b e f g = g ∙ rw (e, f, add-one)
+passed-start {round = round} h =
+    record { within = omega arith; whole = zero-mod round; rest = rw sub-zero (h .whole); rises-are = refl }
 
-pub rise-skip : (b : Bool) (v : ℕ) → b ≡ (b && leb 0 v)
-rise-skip b v = rw (le-leb 0 v (omega arith)) (sym (and-true b))
+module _ {cells : List ℕ} {k round start : ℕ} (b : Bool) (h : Rounds cells k round) (w : Passed cells k round start b) (more : start < length cells) where
+  pub round-fits : start + round ≤ length cells
+  round-fits = go (decLt (length cells - start) round)
+    where
+      go : Dec (length cells - start < round) → start + round ≤ length cells
+      go (yes l) = let z : (length cells - start) % round ≡ length cells - start = mod-eq-of-lt l in absurd (omega (arith, w .rest))
+      go (no l) = omega arith
 
--- nothing is compared in the first k rows
-pub rise-none : (k round : ℕ) (cells : List ℕ) (n : ℕ) → n ≤ k → n ≤ round → risingIn k round cells n ≡ true
-unfolding risingIn
-rise-none k round cells zero h l = refl
-rise-none k round cells (suc n) h l =
-    let e : n % round ≡ n = mod-eq-of-lt (omega arith) in
-    rw (rise-none k round cells n (omega arith) (omega arith), e, lt-leb k n (omega arith)) (sym (rise-skip true (getD cells n 0)))
+  pub passed-turn : {b′ : Bool} → b′ ≡ (b && runRises k cells (start + k) (start + round - (start + k))) → Passed cells k round (start + round) b′
+  passed-turn f =
+      let n : start + round - (start + k) ≡ round - k = omega (arith, h .begin) in
+      let end : start + k + (round - k) ≡ start + round = omega (arith, h .begin) in
+      let run : risingIn k round cells (start + round) ≡ (risingIn k round cells start && runRises k cells (start + k) (round - k)) =
+      rw end at (in-run k round cells start (h .begin) (w .whole) (round - k) (omega (arith, h .begin))) in
+      let left : length cells - (start + round) ≡ length cells - start - round = omega (arith, round-fits) in
+      record {
+        within = round-fits;
+        whole = add-mod-right start round ∙ w .whole;
+        rest = rw left (sym (mod-eq-sub-mod {m = round} (omega (arith, round-fits))) ∙ w .rest);
+        rises-are = f ∙ rw (n, w .rises-are) (sym run);
+      }
+
+pub passed-done : {cells : List ℕ} {k round start : ℕ} {b : Bool} → Passed cells k round start b → length cells ≤ start → b ≡ risingIn k round cells (length cells)
+passed-done {cells} {start = start} w h =
+    let e : start ≡ length cells = omega (arith, w .within) in
+    w .rises-are ∙ rw e
 
 -- ---- the walk over the items, from the last to the first
 
@@ -115,41 +151,40 @@ rise-none k round cells (suc n) h l =
 pub record Risen (us cells : List ℕ) (n j k : ℕ) (rises : Bool) : Type 0 where
   pub within : j ≤ length us
   pub stride : k ≡ rowsOf (drop j us)
-  pub short : k ≤ n
   pub rises-are : rises ≡ rising (drop j us) cells n
 
-pub risen-start : (us cells : List ℕ) (n : ℕ) → 0 < n → Risen us cells n (length us) 1 true
-risen-start us cells n h = record { within = omega arith; stride = sym (rows-end us); short = h; rises-are = rw (drop-length us) (sym (rising-none cells n)) }
+pub risen-start : (us cells : List ℕ) (n : ℕ) → Risen us cells n (length us) 1 true
+risen-start us cells n = record { within = omega arith; stride = sym (rows-end us); rises-are = rw (drop-length us) (sym (rising-none cells n)) }
 
-module _ {us cells : List ℕ} {n j k : ℕ} (b : Bool) (w : Risen us cells n j k b) (p : 0 < j) (m : ℕ) (e : m ≡ getD us (j - 1) 0 + 1) where
-  pub stride-pos : 0 < k
+module _ {us cells : List ℕ} {j k : ℕ} (b : Bool) (all : length cells ≡ rowsOf us) (w : Risen us cells (length cells) j k b) (p : 0 < j) (m : ℕ) (e : m ≡ getD us (j - 1) 0 + 1) where
+  stride-pos : 0 < k
   stride-pos = rw (w .stride) (rows-pos (drop j us))
 
   round : k * m ≡ rowsOf (drop (j - 1) us)
   round = rows-turn j k m us p (w .within) (w .stride) e
 
-  pub round-pos : 0 < k * m
-  round-pos = rw round (rows-pos (drop (j - 1) us))
+  pub round-le : k * m ≤ length cells
+  round-le = omega (arith, round, rows-drop (j - 1) us)
 
-  -- past item j - 1, whose rounds are of this many rows as far as n rows show
-  turned : (long : ℕ) → ((r : ℕ) → r < n → r % (k * m) ≡ r % long) → (b && risingIn k long cells n) ≡ rising (drop (j - 1) us) cells n
-  turned long h =
+  -- all rows are whole rounds of an item
+  pub item-rounds : Rounds cells k (k * m)
+  item-rounds =
+      record {
+        some = stride-pos;
+        begin = le-mul-of-pos-right k (omega arith);
+        whole = rw (all, round, rows-split (j - 1) us) (mul-mod-right (rowsOf (drop (j - 1) us)) (rowsOf (take (j - 1) us)));
+      }
+
+  -- past item j - 1
+  pub risen-turn : {b′ : Bool} → b′ ≡ (b && risingIn k (k * m) cells (length cells)) → Risen us cells (length cells) (j - 1) (k * m) b′
+  risen-turn f =
       let i : j - 1 + 1 ≡ j = omega arith in
-      sym
-      (rising-at (j - 1) us cells long n (omega (arith, w .within)) (λ r q. rw (i, ← w .stride, ← e) (unit-test r k m stride-pos (omega arith) ∙ rw (h r q)))
-      ∙ rw (i, ← w .stride, ← w .rises-are))
-
-  pub round-le : m ≤ (n - 1) / k → k * m ≤ n
-  round-le h =
-      let q : m * k ≤ n - 1 = le-div-iff-mul-le stride-pos .0 h in
-      rw mul-comm (omega arith)
-
-  pub risen-turn : {b′ : Bool} → m ≤ (n - 1) / k → b′ ≡ (b && risingIn k (k * m) cells n) → Risen us cells n (j - 1) (k * m) b′
-  risen-turn h f = record { within = omega (arith, w .within); stride = round; short = round-le h; rises-are = f ∙ turned (k * m) (λ r q. refl) }
-
-  -- no row is in a second round: the items that are left do not count
-  pub risen-done : {b′ : Bool} → 0 < n → (n - 1) / k < m → b′ ≡ (b && risingIn k n cells n) → b′ ≡ rising us cells n
-  risen-done f g h =
-      let l : n - 1 < m * k = div-lt-iff-lt-mul stride-pos .0 g in
-      let l′ : n ≤ k * m = rw mul-comm (omega arith) in
-      h ∙ turned n (λ r q. mod-eq-of-lt (omega arith) ∙ sym (mod-eq-of-lt q)) ∙ sym (rising-drop (j - 1) us cells n (rw (← round) l′))
+      record {
+        within = omega (arith, w .within);
+        stride = round;
+        rises-are =
+            f
+            ∙ sym
+            (rising-at (j - 1) us cells (k * m) (length cells) (omega (arith, w .within)) (λ r q. rw (i, ← w .stride, ← e) (unit-test r k m stride-pos (omega arith)))
+            ∙ rw (i, ← w .stride, ← w .rises-are));
+      }

@@ -1,17 +1,31 @@
 -- Laws of the rows of a table: how many there are, the largest cell one unit below, and rising. Assumes nothing.
-use mathlib.Core.Path.{_≡_, refl, sym, ap₂, _∙_}
+use mathlib.Core.Path.{_≡_, refl, sym, ap, ap₂, _∙_}
 use mathlib.Core.Bool.{Bool, true, false, cond, _&&_, and-eq-true-iff}
 use mathlib.Core.List.{List, [], _∷_, _++_}
 use Prim.Native.Nat.{ℕ, zero, suc, _+_, _-_, _*_, _/_, _%_, _≤_, _<_, max}
-use native.Mathlib.Nat.{div-eq-of-lt, div-lt-iff-lt-mul, div-div-eq-div-mul, div-one, zero-mod, mod-le, le-trans, lt-of-lt-of-le, le-mul-of-pos-right, mul-pos, max-zero}
+use native.Mathlib.Nat.{add-assoc, div-add-mod, mod-lt, mod-eq-of-lt, mul-add, mul-add-mod-self-left, mul-assoc, mul-one, mul-suc, mul-le-mul-left, div-eq-of-lt, mod-le, le-trans, le-mul-of-pos-right, mul-pos}
 use native.Mathlib.Numerals.{add-one}
 use native.Mathlib.Decide.{decLt}
 use native.Mathlib.Omega.{arith}
 use borrow.Author.Tests.{ltb-true, leb-true}
 use lib.Dec.{ltb, leb}
-use lib.ListN.{length, getD, drop, List·getD-append}
+use lib.ListN.{length, getD, take, drop, List·getD-append}
 use lib.Seq.{drop-cons, drop-length}
 use Rattle.grid.specs.Rows.{rowsOf, lessOne, largestBelow, rising}
+
+-- ---- rounds of k * n rows
+
+-- the rest by a product, digit by digit
+pub rest-mul : (r k n : ℕ) → 0 < k → 0 < n → r % (k * n) ≡ k * (r / k % n) + r % k
+rest-mul r k n a b =
+    let q : ℕ = r / k in
+    let d : ℕ = q % n in
+    let low : r % k < k = mod-lt r a in
+    let high : d < n = mod-lt q b in
+    let in-round : k * d + k ≤ k * n = rw mul-suc at (mul-le-mul-left k high) in
+    let split : r ≡ k * n * (q / n) + (k * d + r % k) =
+    sym (div-add-mod r k) ∙ ap (λ (x : ℕ). k * x + r % k) (sym (div-add-mod q n)) ∙ rw (mul-add, ← mul-assoc, add-assoc) in
+    ap (λ (x : ℕ). x % (k * n)) split ∙ mul-add-mod-self-left (k * n) (q / n) (k * d + r % k) ∙ mod-eq-of-lt (omega arith)
 
 -- ---- the number of rows
 
@@ -26,6 +40,13 @@ unfolding rowsOf
 rows-drop zero us = omega arith
 rows-drop (suc j) [] = omega arith
 rows-drop (suc j) (u ∷ us) = le-trans (rows-drop j us) (le-mul-of-pos-right {m = u + 1} (rowsOf us) (omega arith))
+
+-- the rows of all items are rounds of the rows of the last ones
+pub rows-split : (j : ℕ) (us : List ℕ) → rowsOf us ≡ rowsOf (drop j us) * rowsOf (take j us)
+unfolding rowsOf
+rows-split zero us = sym (mul-one (rowsOf us))
+rows-split (suc j) [] = refl
+rows-split (suc j) (u ∷ us) = rw (rows-split j us) (mul-assoc (rowsOf (drop j us)) (rowsOf (take j us)) (u + 1))
 
 -- one item more, from the end
 pub rows-cons : (j : ℕ) (us : List ℕ) → j < length us → rowsOf (drop j us) ≡ rowsOf (drop (j + 1) us) * (getD us j 0 + 1)
@@ -46,7 +67,7 @@ rows-turn j k n us p h e f =
 -- ---- the largest cell one unit below
 
 -- a row with a unit of an item is not below the rows of one unit of it
-pub unit-le : (r k : ℕ) → 0 < r / k → k ≤ r
+unit-le : (r k : ℕ) → 0 < r / k → k ≤ r
 unit-le r k h = go (decLt r k)
   where
     go : Dec (r < k) → k ≤ r
@@ -56,17 +77,8 @@ unit-le r k h = go (decLt r k)
 pub has-unit : (r k n : ℕ) → 0 < r / k % n → k ≤ r
 has-unit r k n h = unit-le r k (omega (arith, mod-le (r / k) n))
 
--- items whose unit is more rows than r do not count
-pub largest-drop : (j : ℕ) (us cells : List ℕ) (r : ℕ) → r < rowsOf (drop j us) → largestBelow us cells r ≡ largestBelow (drop j us) cells r
-unfolding largestBelow lessOne
-largest-drop zero us cells r h = refl
-largest-drop (suc j) [] cells r h = refl
-largest-drop (suc j) (u ∷ us) cells r h =
-    let l : r < rowsOf us = lt-of-lt-of-le h (rows-drop j us) in
-    rw (div-eq-of-lt l, zero-mod) (max-zero (largestBelow us cells r) ∙ largest-drop j us cells r h)
-
 -- one item more, from the end
-largest-cons : (j : ℕ) (us cells : List ℕ) (r : ℕ) → j < length us
+pub largest-cons : (j : ℕ) (us cells : List ℕ) (r : ℕ) → j < length us
     → largestBelow (drop j us) cells r ≡ max (largestBelow (drop (j + 1) us) cells r) (lessOne (getD us j 0) (rowsOf (drop (j + 1) us)) cells r)
 unfolding largestBelow
 largest-cons j us cells r h = rw (add-one, drop-cons us j 0 h)
@@ -89,40 +101,6 @@ largest-ext (u ∷ us) xs ys r h = ap₂ max (largest-ext us xs ys r h) (less-on
 
 pub largest-front : (us xs ys : List ℕ) (r : ℕ) → r ≤ length xs → largestBelow us (xs ++ ys) r ≡ largestBelow us xs r
 largest-front us xs ys r h = largest-ext us (xs ++ ys) xs r (λ i l. List·getD-append xs ys 0 i (omega arith))
-
--- ---- the walk over the items, from the last to the first
-
--- the items from j on are passed: the one before them takes k rows a unit, row r has q times k rows before it, and b is the largest so far
-pub record Walked (us cells : List ℕ) (r j k q b : ℕ) : Type 0 where
-  pub within : j ≤ length us
-  pub stride : k ≡ rowsOf (drop j us)
-  pub quotient : q ≡ r / k
-  pub largest : b ≡ largestBelow (drop j us) cells r
-
-pub walk-start : (us cells : List ℕ) (r : ℕ) → Walked us cells r (length us) 1 r 0
-unfolding largestBelow
-walk-start us cells r =
-    record { within = omega arith; stride = sym (rows-end us); quotient = sym (div-one r); largest = rw (drop-length us) }
-
--- past item j - 1, which has n - 1 units
-pub walk-turn : {us cells : List ℕ} {r j k q b n b′ : ℕ} → Walked us cells r j k q b → 0 < j → n ≡ getD us (j - 1) 0 + 1
-    → b′ ≡ max b (cond (ltb 0 (q % n)) (getD cells (r - k) 0) 0) → Walked us cells r (j - 1) (k * n) (q / n) b′
-unfolding lessOne
-walk-turn {us} {cells} {r} {j} {k} {n = n} w p e f =
-    let i : j - 1 + 1 ≡ j = omega arith in
-    record {
-      within = omega arith;
-      stride = rows-turn j k n us p (w .within) (w .stride) e;
-      quotient = rw (w .quotient) (div-div-eq-div-mul r k n);
-      largest = f ∙ sym (largest-cons (j - 1) us cells r (omega (arith, w .within)) ∙ rw (i, ← e, ← w .stride, ← w .largest, ← w .quotient));
-    }
-
--- with fewer than k rows before row r the items that are left do not count
-pub walk-done : {us cells : List ℕ} {r j k q b : ℕ} → Walked us cells r j k q b → q ≡ 0 → b ≡ largestBelow us cells r
-walk-done {us} {cells} {r} {j} {k} w z =
-    let p : 0 < k = rw (w .stride) (rows-pos (drop j us)) in
-    let l : r < 1 * k = div-lt-iff-lt-mul p .0 (omega (arith, w .quotient)) in
-    w .largest ∙ sym (largest-drop j us cells r (rw (← w .stride) (omega arith)))
 
 -- ---- rising
 

@@ -6,8 +6,9 @@ use Prim.Native.Nat.{ℕ, zero, suc, _*_}
 use lib.Dec.{ltb, eqb}
 use lib.ListN.{length, getD}
 use Rattle.area.specs.Entries.{upTo}
-use Rattle.grid.specs.Rows.{largestBelow, rising}
+use Rattle.grid.specs.Rows.{rowsOf, largestBelow, rising}
 use Rattle.grid.specs.Map.{stands, standing, packed}
+use Rattle.grid.specs.Units.{Small}
 
 -- the cell of row r, after those before it: the next given one where its bit stands, else the largest one unit below
 abbrev pub cellOf : List ℕ → List ℕ → List ℕ → List ℕ → ℕ → ℕ
@@ -27,6 +28,11 @@ given us cells n r = ltb r n && not (eqb (getD cells r 0) (largestBelow us cells
 -- the map, w bytes long, of the cells that have to be given
 unfoldable pub rowMap : List ℕ → List ℕ → ℕ → ℕ → List ℕ
 rowMap us cells n w = upTo w (λ k. packed (given us cells n) (8 * k) 8)
+
+-- a table of at most four items and at most 128 rows, with a cell for each row
+pub record Sized (us cells : List ℕ) : Type 0 where
+  pub small : Small us
+  pub long : length cells ≡ rowsOf us
 
 -- what filling leaves: every cell, and whether none is below that of a row with one unit less of one item
 pub record Fills (us map gs before : List ℕ) (rises : Bool) (after : List ℕ) : Type 0 where

@@ -1,42 +1,8 @@
 // Tables whose every cell is given: the cells are the given ones in order.
 ghost use mathlib.Core.Path.{_≡_};
-ghost use mathlib.Core.Bool.{true};
-ghost use Prim.Native.Nat.{_+_, _/_, _%_, _^_, _<_, _≤_};
-ghost use lib.Dec.{eqb};
+ghost use Prim.Native.Nat.{_/_, _<_, _≤_};
 ghost use lib.ListN.{length, getD, take};
 ghost use Rattle.area.specs.Entries.{entries};
-ghost use Rattle.grid.specs.Map.{standing};
-use super::byte;
-
-// Whether the rows before row n stand in row n's byte: adding 1 then carries past their bits.
-fn part_given(map: &[u8], n: usize) -> bool
-    ensures { λ b. ⌜ b ≡ eqb ((getD (now (map .entry)) (n / 8) 0 + 1) % 2 ^ (n % 8)) 0 ⌝ }
-{
-    let i = n / 8;
-    let k = n % 8;
-    if map.len() <= i {
-        return k == 0;
-    }
-    (byte(map[i]) + 1) % (1usize << k) == 0
-}
-
-// Whether each of the first n rows is known to stand. A false promises nothing: rows filled one by one need no such fact.
-pub(crate) fn all_given(map: &[u8], n: usize) -> bool
-    ensures { λ b. ⌜ (b ≡ true → standing (now (map .entry)) n ≡ n) ⌝ }
-{
-    let whole = n / 8;
-    if map.len() < whole {
-        return false;
-    }
-    let mut i: usize = 0;
-    while i < whole {
-        if map[i] != 255 {
-            return false;
-        }
-        i += 1;
-    }
-    part_given(map, n)
-}
 
 // Given cell r, which there is. The part has the bytes of one number, so that the read tests no length.
 fn given_at(given: &[u8], r: usize) -> u32

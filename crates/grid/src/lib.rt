@@ -1,19 +1,24 @@
 // The rows of a table: how many there are, blank cells, and row maps.
 ghost use mathlib.Core.Path.{_≡_};
 ghost use mathlib.Core.Bool.{cond, _&&_};
-ghost use Prim.Native.Nat.{_<_, _+_, _^_, max};
+ghost use Prim.Native.Nat.{_<_, _+_, _/_, _^_};
 ghost use lib.Dec.{leb};
 ghost use lib.ListN.{length, getD};
 ghost use Rattle.area.specs.Entries.{entries};
-ghost use Rattle.grid.specs.Rows.{rowsOf, largestBelow, rising};
-ghost use Rattle.grid.specs.Map.{bitAt, stands, bitsFrom, marked};
-ghost use Rattle.grid.specs.Cells.{rowMap, filled, Fills};
+ghost use Rattle.grid.specs.Rows.{rowsOf, rising};
+ghost use Rattle.grid.specs.Map.{bitAt, stands, standing, bitsFrom, marked};
+ghost use Rattle.grid.specs.Cells.{rowMap, Sized, Fills};
+ghost use Rattle.grid.specs.Units.{Small, RowUnits};
 
+mod below;
 mod full;
 mod rise;
+mod units;
 
-use full::all_given;
+use below::largest_below;
+use below::strides_of;
 use full::copy_given;
+pub use units::all_units;
 
 // A table has at most this many rows.
 pub const MAX_ROWS: usize = 128;
@@ -38,36 +43,6 @@ fn wide(x: u16) -> usize
     ensures { λ r. ⌜ (r ≡ x) × (r < 65536) ⌝ }
 {
     x as usize
-}
-
-fn larger(a: u32, b: u32) -> u32
-    ensures { λ r. ⌜ r ≡ max a b ⌝ }
-{
-    if a < b { b } else { a }
-}
-
-// The largest cell among the rows with one unit less of one item. Stops at the first item before which row r has no unit.
-fn largest_below(units: &[u16], cells: &[u32], r: usize) -> u32
-    requires { ⌜ r < length (now cells) ⌝ }
-    ensures { λ v. ⌜ v ≡ largestBelow (now (units .entry)) (now (cells .entry)) r ⌝ }
-{
-    let mut j = units.len();
-    let mut k: usize = 1;
-    let mut q = r;
-    let mut b: u32 = 0;
-    while 0 < j {
-        j -= 1;
-        let n = wide(units[j]) + 1;
-        if 0 < q % n {
-            b = larger(b, cells[r - k]);
-        }
-        q = q / n;
-        if q == 0 {
-            return b;
-        }
-        k = k * n;
-    }
-    b
 }
 
 // Whether bit r of a row map stands; past the end none does.
@@ -109,9 +84,9 @@ struct Cell {
 }
 
 // The cell of row r: the next given one where its bit stands, else the largest below.
-fn cell_at(units: &[u16], map: &[u8], given: &[u8], cells: &[u32], used: usize, r: usize) -> Cell
-    requires { ⌜ (used + 1 < 2 ^ 64) × (r < length (now cells)) ⌝ }
-    ensures { λ c. ⌜ (c .value ≡ cond (stands (now (map .entry)) r) (getD (entries 4 (now (given .entry))) used 0) (largestBelow (now (units .entry)) (now (cells .entry)) r)) × (c .used ≡ used + bitAt (now (map .entry)) r) ⌝ }
+fn cell_at(map: &[u8], given: &[u8], below: u32, used: usize, r: usize) -> Cell
+    requires { ⌜ used + 1 < 2 ^ 64 ⌝ }
+    ensures { λ c. ⌜ (c .value ≡ cond (stands (now (map .entry)) r) (getD (entries 4 (now (given .entry))) used 0) below) × (c .used ≡ used + bitAt (now (map .entry)) r) ⌝ }
 {
     if stands(map, r) {
         Cell {
@@ -119,10 +94,7 @@ fn cell_at(units: &[u16], map: &[u8], given: &[u8], cells: &[u32], used: usize, 
             used: used + 1,
         }
     } else {
-        Cell {
-            value: largest_below(units, cells, r),
-            used,
-        }
+        Cell { value: below, used }
     }
 }
 
@@ -132,39 +104,48 @@ fn still_rising(rises: bool, below: u32, v: u32) -> bool
     if below <= v { rises } else { false }
 }
 
-// Fills a table's cells row by row.
-fn fill_rows(units: &[u16], map: &[u8], given: &[u8], cells: &mut [u32])
-    ensures { λ _. ⌜ now (cells .exit) ≡ filled (now (units .entry)) (now (map .entry)) (entries 4 (now (given .entry))) (length (now (cells .entry))) ⌝ }
-{
-    let mut used: usize = 0;
-    let mut r: usize = 0;
-    while r < cells.len() {
-        let c = cell_at(units, map, given, cells, used, r);
-        cells[r] = c.value;
-        used = c.used;
-        r += 1;
-    }
-}
-
-// Fills a table's cells: a plain copy where every cell is given.
-fn fill_cells(units: &[u16], map: &[u8], given: &[u8], cells: &mut [u32])
-    ensures { λ _. ⌜ now (cells .exit) ≡ filled (now (units .entry)) (now (map .entry)) (entries 4 (now (given .entry))) (length (now (cells .entry))) ⌝ }
-{
-    if cells.len() <= given.len() / 4 {
-        if all_given(map, cells.len()) {
-            copy_given(given, cells);
-            return;
-        }
-    }
-    fill_rows(units, map, given, cells);
-}
-
-// Fills a table's cells from the given ones, and says whether none is below that of a row with one unit less of one item.
-pub fn fill(units: &[u16], map: &[u8], given: &[u8], cells: &mut [u32]) -> bool
+// Fills a table's cells row by row. The cell before is kept at hand: the next row would else wait for its store.
+fn fill_rows(units: &[u16], words: &[u32; 128], map: &[u8], given: &[u8], cells: &mut [u32]) -> bool
+    requires { ⌜ Small (now units) × RowUnits (now units) (now words) (length (now cells)) ⌝ }
     ensures { λ b. ⌜ Fills (now (units .entry)) (now (map .entry)) (entries 4 (now (given .entry))) (now (cells .entry)) b (now (cells .exit)) ⌝ }
 {
-    fill_cells(units, map, given, cells);
-    rise::all_rise(units, cells)
+    let strides = strides_of(units);
+    let mut used: usize = 0;
+    let mut last: u32 = 0;
+    let mut rises = true;
+    let mut r: usize = 0;
+    while r < cells.len() {
+        let below = largest_below(strides, cells, r, words[r], last);
+        let c = cell_at(map, given, below, used, r);
+        cells[r] = c.value;
+        rises = still_rising(rises, below, c.value);
+        used = c.used;
+        last = c.value;
+        r += 1;
+    }
+    rises
+}
+
+// Fills a table's cells where some are blank.
+fn fill_blanks(units: &[u16], map: &[u8], given: &[u8], cells: &mut [u32]) -> bool
+    requires { ⌜ Sized (now units) (now cells) ⌝ }
+    ensures { λ b. ⌜ Fills (now (units .entry)) (now (map .entry)) (entries 4 (now (given .entry))) (now (cells .entry)) b (now (cells .exit)) ⌝ }
+{
+    let words = all_units(units);
+    fill_rows(units, &words, map, given, cells)
+}
+
+// Fills a table's cells from the given ones, as many as rows stand, and says whether none is below that of a row with one unit less of
+// one item. Where every cell is given, they are copied.
+pub fn fill(units: &[u16], map: &[u8], given: &[u8], cells: &mut [u32]) -> bool
+    requires { ⌜ Sized (now units) (now cells) × (length (now given) / 4 ≡ standing (now map) (length (now cells))) ⌝ }
+    ensures { λ b. ⌜ Fills (now (units .entry)) (now (map .entry)) (entries 4 (now (given .entry))) (now (cells .entry)) b (now (cells .exit)) ⌝ }
+{
+    if cells.len() <= given.len() / 4 {
+        copy_given(given, cells);
+        return rise::all_rise(units, cells);
+    }
+    fill_blanks(units, map, given, cells)
 }
 
 // The map of the cells that have to be given, and whether none is below that of a row with one unit less of one item.
@@ -175,16 +156,21 @@ pub struct Marks {
 
 // Finds the cells that filling would not restore. Rows past the map's last are not marked.
 pub fn mark(units: &[u16], cells: &[u32]) -> Marks
+    requires { ⌜ Sized (now units) (now cells) ⌝ }
     ensures { λ m. ⌜ (m .rises ≡ rising (now (units .entry)) (now (cells .entry)) (length (now (cells .entry)))) × (m .map ≡ rowMap (now (units .entry)) (now (cells .entry)) (length (now (cells .entry))) 16) ⌝ }
 {
+    let words = all_units(units);
+    let strides = strides_of(units);
     let mut map = [0u8; 16];
     let mut rises = true;
+    let mut last: u32 = 0;
     let mut r: usize = 0;
     while r < cells.len() {
-        let below = largest_below(units, cells, r);
+        let below = largest_below(strides, cells, r, words[r], last);
         let v = cells[r];
         mark_row(&mut map, r, v != below);
         rises = still_rising(rises, below, v);
+        last = v;
         r += 1;
     }
     Marks { rises, map }

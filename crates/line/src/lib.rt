@@ -62,14 +62,7 @@ pub struct First {
 pub fn pay(sides: Sides, t: Totals, cost: u32) -> u32
     ensures { λ r. ⌜ r ≡ min (coins (upperOf (sides .price) (t .cost) cost (sides .supplier))) (sides .price) ⌝ }
 {
-    let hi = exchange::upper(sides.price, t.cost, cost, sides.supplier);
-    if hi < 0 {
-        return 0;
-    }
-    if hi < sides.price as i64 {
-        return hi as u32;
-    }
-    sides.price
+    exchange::most_paid(sides.price, t.cost, cost, sides.supplier)
 }
 
 // Whether a place's lower bound is at most what is paid.

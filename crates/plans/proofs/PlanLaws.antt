@@ -20,7 +20,6 @@ use Rattle.contract.specs.declared.Form.{Form}
 use Rattle.contract.specs.declared.Form.the-variants.{Ladder, UnitPrices, Table}
 use Rattle.contract.specs.declared.Refusal.the-variants.{Short}
 use Rattle.exchange.specs.Deal.{Deal, State, Plan}
-use Rattle.exchange.specs.Forms.{table}
 use Rattle.exchange.specs.declared.Objective.{Objective}
 use Rattle.exchange.specs.declared.Planned as exchange
 use Rattle.exchange.specs.declared.Sides.{Sides}
@@ -32,7 +31,7 @@ use Rattle.planning.specs.Promise.{alongOrder, roomed, ahead, Plans, PlansFor, 
 use Rattle.planning.specs.declared.Planned.{Planned}
 use Rattle.planning.proofs.ReadLaws.{number-range}
 use Rattle.planning.proofs.Outcome.{short-said, room-said}
-use Rattle.planning.proofs.TablePlan.{few-items, costs-rows, few-rows, cells-rise, table-suits, table-none, table-success}
+use Rattle.planning.proofs.TablePlan.{few-items, costs-rows, few-rows, table-suits, table-none, table-success}
 use Rattle.sizes.specs.Units.{unitsFew}
 use Rattle.sizes.proofs.UnitLaws.{units-few}
 use Rattle.along.specs.Code.{PlansFound}
@@ -170,23 +169,19 @@ module _ (s : Sides) (us cs vs : List ℕ) (v : Valid (contractWith Table s us c
   abbrev tableOf : Contract
   tableOf = contractWith Table s us cs vs
 
-  -- what the search answered of cells that rise
-  said : search.Answers (table s us cs vs) (search.suits us cs vs p q w) r p q w p′ q′ w′
-  said = g (cells-rise s us cs vs v)
-
   pub table-plans : (n : ℕ) → r ≡ exchange.Planned.Steps n → (o′ : List ℕ) → o′ ≡ replicate 8 0 ++ drop 8 o
       → PlansOf Objective.Steps tableOf (Planned.Steps n) (areas p q o w) (areas p′ q′ o′ w′)
   table-plans n e o′ eo =
-      let (laid, zero-work) = search-steps _ _ r p q w p′ q′ w′ said n e in
+      let (laid, zero-work) = search-steps _ _ r p q w p′ q′ w′ g n e in
       record { plans = room-said Objective.Steps tableOf (ok n) _ _ h (table-success s us cs vs v n (areas p q o w) (areas p′ q′ o′ w′) h laid eo zero-work) }
 
   pub table-impossible : r ≡ exchange.Planned.Impossible → PlansOf Objective.Steps tableOf Planned.Impossible (areas p q o w) (areas p′ q′ o w′)
   table-impossible e =
-      let (no-plan, (ep, (eq, ew))) = search-none _ _ r p q w p′ q′ w′ said e in
+      let (no-plan, (ep, (eq, ew))) = search-none _ _ r p q w p′ q′ w′ g e in
       record {
         plans =
             room-said Objective.Steps tableOf (refused 9) _ _ h (refl, (table-none s us cs vs v no-plan, only-work p q o w p′ q′ w′ ep eq ew));
       }
 
   pub table-unfit : r ≡ exchange.Planned.Unfit → {X : Type 0} → X
-  table-unfit e = search-unfit _ _ r p q w p′ q′ w′ said e (table-suits s us cs vs v (areas p q o w) h)
+  table-unfit e = search-unfit _ _ r p q w p′ q′ w′ g e (table-suits s us cs vs v (areas p q o w) h)

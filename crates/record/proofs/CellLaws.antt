@@ -8,8 +8,8 @@ use lib.Dec.{leb}
 use lib.ListN.{length, drop, replicate, length-drop}
 use lib.Seq.{length-take-le}
 use Rattle.area.specs.Entries.{entries, column}
-use Rattle.grid.specs.Rows.{rising}
-use Rattle.grid.specs.Cells.{Fills}
+use Rattle.grid.specs.Rows.{rowsOf, rising}
+use Rattle.grid.specs.Cells.{Sized, Fills}
 use Rattle.contract.specs.Res.{refused, ok, test}
 use Rattle.contract.specs.Contract.{headerOf}
 use Rattle.contract.specs.Field.{Head}
@@ -18,9 +18,12 @@ use Rattle.contract.specs.Table.{Layout, Grid, part, unitsOf, cellsOf, tableCon
 use Rattle.contract.specs.declared.Form.the-variants.{Table}
 use Rattle.contract.proofs.ParsedValid.TableValid.{cells-length}
 use Rattle.record.specs.View.Answer.{acceptance}
-use Rattle.record.specs.View.Table.{Items}
+use Rattle.record.specs.View.Table.{Items, Laid}
 use Rattle.record.specs.declared.Reply.{Reply}
 use Rattle.record.proofs.TableLaws.{column-bytes}
+
+units-length : {s : List ℕ} (t : Layout) → Items s (t .units) (t .unitsEnd) → length (unitsOf s t) ≡ t .unitsEnd - t .units
+units-length {s} t p = length-take-le (t .unitsEnd - t .units) (drop (t .units) s) (simp length-drop (omega (arith, p .begin, p .within)))
 
 -- what filling a grid's cells left, and whether they rise
 pub record CellsRead (s : List ℕ) (t : Layout) (g : Grid) (b : Bool) (cells : List ℕ) : Type 0 where
@@ -33,6 +36,13 @@ unfolding cellsOf
 cells-read {s} {us} {before} {cells} {b} t g e l f =
     let c : cells ≡ cellsOf s t g = f .cells-are ∙ rw (e, l) in
     record { cells-are = c; rises-is = sym (f .rises-is ∙ rw (c, e, cells-length s t g)) }
+
+-- as grid functions ask for them
+pub cells-sized : {s us cells : List ℕ} (t : Layout) → Laid s t → us ≡ unitsOf s t → length cells ≡ t .rows → Sized us cells
+cells-sized {s} {us} t h e l =
+    let items : length us ≡ t .unitsEnd - t .units = rw e (units-length t (h .items)) in
+    let rows : t .rows ≡ rowsOf us = rw e (h .rows-are) in
+    record { small = record { items = omega (arith, h .items .few); rows = omega (arith, h .rows-le) }; long = l ∙ rows }
 
 -- what is said of cells that fall, and of those that rise
 pub said-costs-fall : (s : List ℕ) (h : Head) (t : Layout) → rising (unitsOf s t) (cellsOf s t (t .costs)) (t .rows) ≡ false → tableEnd s h t ≡ refused 6
@@ -57,5 +67,4 @@ pub table-header : {s us : List ℕ} (h : Head) (t : Layout) → Items s (t .uni
 unfolding tableContract
 table-header {s} {us} h t p e q =
     let n : ℕ = t .unitsEnd - t .units in
-    let l : length (part (t .units) (t .unitsEnd) s) ≡ n = length-take-le n (drop (t .units) s) (simp length-drop (omega (arith, p .begin, p .within))) in
-    rw (e, l, q, column-bytes s (t .units) n (omega (arith, p .begin, p .within)))
+    rw (e, units-length t p, q, column-bytes s (t .units) n (omega (arith, p .begin, p .within)))

@@ -5,17 +5,20 @@ use mathlib.Core.List.{List, _++_}
 use Prim.Native.Nat.{ℕ, zero, suc, _+_, _-_, _≤_, _<_}
 use native.Mathlib.Nat.{zero-add}
 use native.Mathlib.Numerals.{add-one}
+use native.Mathlib.Decide.{decLt}
 use native.Mathlib.Omega.{arith}
 use lib.Dec.{leb}
-use lib.ListN.{length, getD, set, take, drop, replicate}
-use lib.Seq.{drop-cons, paste-suc, take-at}
+use lib.ListN.{length, getD, set, take, drop, replicate, length-take, length-drop, List·getD-eq-default}
+use lib.Seq.{drop-cons, paste-suc, take-at, getD-take, getD-drop, length-take-le}
 use borrow.Author.Tests.{leb-true}
 use Rattle.contract.specs.Res.{refused, ok}
 use Rattle.contract.specs.Field.{At, ranged}
-use Rattle.area.specs.Entries.{num, column}
+use Rattle.area.specs.Entries.{Bytes, num, column}
 use Rattle.area.proofs.Laws.{column-length, column-zero, column-suc}
 use Rattle.grid.specs.Rows.{rowsOf}
+use Rattle.grid.specs.Map.{mapSize, bitsFrom, bitCount, standing}
 use Rattle.grid.proofs.RowLaws.{rows-pos}
+use Rattle.grid.proofs.MapLaws.{count-rows}
 use Rattle.contract.specs.Table.{unitsAt, part}
 use Rattle.record.specs.View.Table.{Items}
 use Rattle.record.proofs.Laws.{one-more}
@@ -89,3 +92,18 @@ pub counted : {s us : List ℕ} {i e n : ℕ} → Items s i e → us ≡ column 
     → n ≡ cond (leb (rowsOf (take (e - i) us)) 128) (rowsOf (take (e - i) us)) 0
     → n ≡ cond (leb (rowsOf (part i e s)) 128) (rowsOf (part i e s)) 0
 counted p q h = rw (units-read p q) at h
+
+part-bytes : (s : List ℕ) (m n : ℕ) → Bytes s → Bytes (take n (drop m s))
+part-bytes s m n b k = go (decLt k n)
+  where
+    go : Dec (k < n) → getD (take n (drop m s)) k 0 < 256
+    go (yes l) = rw (getD-take n (drop m s) k 0 l, getD-drop m s k 0) (b (m + k))
+    go (no l) = rw (List·getD-eq-default (take n (drop m s)) 0 {n = k} (omega (arith, length-take n (drop m s)))) (omega arith)
+
+-- with no bit beyond the last row, the bits counted are those of the rows
+pub map-counted : (s : List ℕ) (m rows : ℕ) → Bytes s → m + mapSize rows ≤ length s → bitsFrom (part m (m + mapSize rows) s) rows ≡ 0
+    → bitCount (part m (m + mapSize rows) s) ≡ standing (part m (m + mapSize rows) s) rows
+map-counted s m rows b h e =
+    let size : m + mapSize rows - m ≡ mapSize rows = omega arith in
+    count-rows (part m (m + mapSize rows) s) rows (part-bytes s m (m + mapSize rows - m) b)
+    (length-take-le (m + mapSize rows - m) (drop m s) (simp length-drop (omega arith)) ∙ size) e

@@ -12,7 +12,7 @@ use lib.Seq.{sets-eq}
 use Rattle.area.specs.Entries.{digits}
 use Rattle.grid.specs.Rows.{rowsOf, rising}
 use Rattle.grid.specs.Map.{mapSize, bitCount}
-use Rattle.grid.specs.Cells.{rowMap}
+use Rattle.grid.specs.Cells.{rowMap, Sized}
 use Rattle.grid.proofs.MarkLaws.{map-length, map-take}
 use Rattle.contract.specs.Res.{Res, refused}
 use Rattle.contract.specs.Contract.{Contract, numberOf, entriesIn}
@@ -134,6 +134,7 @@ pub record Laid (h : Header) (us cs vs : List ℕ) : Type 0 where
   pub same : length vs ≡ length cs
   pub few-units : length us ≤ 4
   pub few-rows : length cs ≤ 128
+  pub rows-are : length cs ≡ rowsOf us
   pub bytes-are : serialize (contractWith h us cs vs) ≡ headBytes h ++ flatMap (digits 1) us ++ gridBytes us cs ++ gridBytes us vs
   pub costs-rising : rises (h .form) us cs ≡ rising us cs (length cs)
   pub values-rising : rises (h .form) us vs ≡ rising us vs (length vs)
@@ -151,6 +152,7 @@ laid {h} {us} {cs} t =
       same = c .values-counted ∙ sym (c .costs-counted);
       few-units = omega (arith, leb-true (h .count) 4 most);
       few-rows = omega (arith, leb-true (rowsOf us) 128 rows);
+      rows-are = costs;
       bytes-are = rw (e, ← items) (simp append-assoc);
       costs-rising = rw e;
       values-rising = rw e;
@@ -164,6 +166,12 @@ module _ {h : Header} {us cs vs : List ℕ} (t : Tabled h us cs vs) (room : ℕ)
   pub values-fall : rising us cs (length cs) ≡ true → rising us vs (length vs) ≡ false → recordOf (contractWith h us cs vs) room ≡ refused 6
   unfolding recordOf
   values-fall c e = rw (t .within, laid t .costs-rising, c, laid t .values-rising, e)
+
+-- costs, or values, as grid functions ask for them
+pub table-sized : {h : Header} {us cs vs : List ℕ} → Tabled h us cs vs → (cells : List ℕ) → length cells ≡ length cs → Sized us cells
+table-sized t cells same =
+    let l = laid t in
+    record { small = record { items = l .few-units; rows = omega (arith, l .rows-are, l .few-rows) }; long = same ∙ l .rows-are }
 
 -- the front of a map of 16 bytes is the map of the rows
 module _ {h : Header} {us cs vs map : List ℕ} (t : Tabled h us cs vs) (cells : List ℕ) (same : length cells ≡ length cs) (e : map ≡ rowMap us cells (length cells) 16) where

@@ -29,18 +29,19 @@ pub(crate) fn units_of(s: &[u8], at: usize, step: usize, n: usize) -> [u16; 8]
     units
 }
 
-// How many bits stand in a row map, counted byte by byte.
+// How many bits stand in a row map, counted byte by byte. A map has at most 128 rows, so that the count fits a byte, and a loop over bytes
+// alone is the faster.
 pub(crate) fn ones(map: &[u8]) -> usize
     requires { ⌜ length (now map) ≤ 16 ⌝ }
     ensures { λ r. ⌜ (r ≡ bitCount (now (map .entry))) × (r ≤ 128) ⌝ }
 {
-    let mut n: usize = 0;
+    let mut n: u8 = 0;
     let mut i = 0;
     while i < map.len() {
-        n += u8::count_ones(map[i]) as usize;
+        n += u8::count_ones(map[i]) as u8;
         i += 1;
     }
-    n
+    n as usize
 }
 
 // Whether every cell is within the limit. All are looked at: a loop with one way out is the faster.

@@ -1,6 +1,7 @@
 // A table: the units of each item, and for costs and for values a row map with the cells that stand.
 ghost use Prim.Native.Nat.{_≤_};
 ghost use lib.ListN.{length};
+ghost use Rattle.grid.specs.Cells.{Sized};
 ghost use Rattle.contract.specs.Table.{gridsAt, tableAt, tableEnd, tableBody};
 ghost use Rattle.contract.specs.Parse.{sized};
 ghost use Rattle.record.specs.View.Head.{headOf, ReadHead};
@@ -141,7 +142,7 @@ fn table_at(s: &[u8], at: usize) -> LayoutReply
 
 // Fills the cells of a grid, and says whether none falls.
 fn fill_cells(s: &[u8], units: &[u16], g: Grid, cells: &mut [u32]) -> bool
-    requires { ⌜ Within (now s) (gridOf g) ⌝ }
+    requires { ⌜ Within (now s) (length (now cells)) (gridOf g) × Sized (now units) (now cells) ⌝ }
     ensures { λ r. ⌜ Filled (now (s .entry)) (now (units .entry)) (gridOf g) (now (cells .entry)) r (now (cells .exit)) ⌝ }
 {
     let m = g.map;

@@ -1,11 +1,10 @@
 pub mod BoolLaws
-pub mod BoundLaws
-pub mod HoldLaws
-pub mod UnitLaws
 pub mod LimitLaws
+pub mod AlikeLaws
 pub mod OfferLaws
 pub mod ListLaws
 pub mod LayerLaws
+pub mod ReadLaws
 pub mod TakeLaws
 pub mod CountLaws
 pub mod WalkLaws

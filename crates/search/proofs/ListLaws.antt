@@ -63,7 +63,7 @@ module _ (xs : List ℕ) (a v : ℕ) (l : a < length xs) (m : v < mark) where
 
 -- ---- the list
 
-pub listing-start : (list : List ℕ) (rows : ℕ) → rows ≤ 128 → length list ≡ 128 → Listing (replicate 128 mark) list 0 rows
+pub listing-start : (list : List ℕ) (rows : ℕ) → rows ≤ 128 → length list ≡ 129 → Listing (replicate 128 mark) list 0 rows
 listing-start list rows few h =
     record {
       next-long = length-replicate {A = ℕ} 128 mark;
@@ -80,13 +80,37 @@ listing-start list rows few h =
 
 module _ {next list : List ℕ} {n rows : ℕ} (h : Listing next list n rows) (few : rows ≤ 128) (a : ℕ) (l : a < rows) where
   -- a row without an offer finds room: with it there are no more than all rows
-  pub listing-room : mark ≤ getD next a 0 → n < 128
-  listing-room m = omega (arith, below-more next a 0 (omega (arith, h .next-long)) (omega arith) m rows l, below-le (set next a 0) rows, h .counted)
+  room : mark ≤ getD next a 0 → n < 128
+  room m = omega (arith, below-more next a 0 (omega (arith, h .next-long)) (omega arith) m rows l, below-le (set next a 0) rows, h .counted)
 
-  module _ (v : ℕ) (less : v < getD next a 0) where
-    v-low : v < mark
-    v-low = omega (arith, h .marked a l)
+  -- the listed rows stay as row a is written behind them
+  kept : (i : ℕ) → i < n → getD (set list n a) i 0 ≡ getD list i 0
+  kept i k = getD-set-other list n i a 0 (λ q. omega arith)
 
+  still-among : {b : ℕ} → Among list n b → Among (set list n a) n b
+  still-among x = record { index = x .index; below = x .below; entry = kept (x .index) (x .below) ∙ x .entry }
+
+  -- its offer stays
+  same : {v : ℕ} → v ≡ getD next a 0 → Listing (set next a v) (set list n a) n rows
+  same {v} e =
+      record {
+        next-long = length-set next a v ∙ h .next-long;
+        list-long = length-set list n a ∙ h .list-long;
+        marked = λ b i. rw (at b) (h .marked b i);
+        counted = h .counted ∙ below-ext next (set next a v) rows (λ b i. rw (at b));
+        lists = λ b i k. still-among (h .lists b i (rw (at b) at k));
+        listed = record { few = h .listed .few; in-rows = λ i k. rw (kept i k) (h .listed .in-rows i k) };
+        taken = λ i k. rw (kept i k, at (getD list i 0)) (h .taken i k);
+      }
+    where
+      at : (b : ℕ) → getD (set next a v) b 0 ≡ getD next b 0
+      at b = go (ℕ-discrete b a)
+        where
+          go : Dec (b ≡ a) → getD (set next a v) b 0 ≡ getD next b 0
+          go (yes q) = rw q (getD-set-same next a v 0 (omega (arith, h .next-long)) ∙ e)
+          go (no z) = getD-set-other next a b v 0 z
+
+  module _ {v : ℕ} (low : v < mark) where
     here : getD (set next a v) a 0 ≡ v
     here = getD-set-same next a v 0 (omega (arith, h .next-long))
 
@@ -94,73 +118,75 @@ module _ {next list : List ℕ} {n rows : ℕ} (h : Listing next list n rows) (f
     still b m = go (ℕ-discrete b a)
       where
         go : Dec (b ≡ a) → getD (set next a v) b 0 < mark
-        go (yes q) = rw (q, here) v-low
+        go (yes q) = rw (q, here) low
         go (no z) = rw (getD-set-other next a b v 0 z) m
 
     marks : (b : ℕ) → b < rows → getD (set next a v) b 0 ≤ mark
     marks b i = go (ℕ-discrete b a)
       where
         go : Dec (b ≡ a) → getD (set next a v) b 0 ≤ mark
-        go (yes q) = rw (q, here) (omega (arith, v-low))
+        go (yes q) = rw (q, here) (omega (arith, low))
         go (no z) = rw (getD-set-other next a b v 0 z) (h .marked b i)
 
-    again : getD next a 0 < mark → Listing (set next a v) list n rows
+    -- it has one more offer
+    again : getD next a 0 < mark → Listing (set next a v) (set list n a) n rows
     again m =
         record {
           next-long = length-set next a v ∙ h .next-long;
-          list-long = h .list-long;
+          list-long = length-set list n a ∙ h .list-long;
           marked = marks;
-          counted = h .counted ∙ sym (below-again next a v (omega (arith, h .next-long)) v-low m rows);
+          counted = h .counted ∙ sym (below-again next a v (omega (arith, h .next-long)) low m rows);
           lists = λ b i k. go b i k (ℕ-discrete b a);
-          listed = h .listed;
-          taken = λ i k. still (getD list i 0) (h .taken i k);
+          listed = record { few = h .listed .few; in-rows = λ i k. rw (kept i k) (h .listed .in-rows i k) };
+          taken = λ i k. rw (kept i k) (still (getD list i 0) (h .taken i k));
         }
       where
-        go : (b : ℕ) → b < rows → getD (set next a v) b 0 < mark → Dec (b ≡ a) → Among list n b
-        go b i k (yes q) = h .lists b i (rw q m)
-        go b i k (no z) = h .lists b i (rw (getD-set-other next a b v 0 z) at k)
+        go : (b : ℕ) → b < rows → getD (set next a v) b 0 < mark → Dec (b ≡ a) → Among (set list n a) n b
+        go b i k (yes q) = still-among (h .lists b i (rw q m))
+        go b i k (no z) = still-among (h .lists b i (rw (getD-set-other next a b v 0 z) at k))
 
+    -- it has its first offer
     new : mark ≤ getD next a 0 → Listing (set next a v) (set list n a) (n + 1) rows
     new m =
         record {
           next-long = length-set next a v ∙ h .next-long;
           list-long = length-set list n a ∙ h .list-long;
           marked = marks;
-          counted = rw add-one (ap suc (h .counted) ∙ sym (below-more next a v (omega (arith, h .next-long)) v-low m rows l));
+          counted = rw add-one (ap suc (h .counted) ∙ sym (below-more next a v (omega (arith, h .next-long)) low m rows l));
           lists = λ b i k. go b i k (ℕ-discrete b a);
-          listed = record { few = omega (arith, listing-room m); in-rows = λ i k. row i k (ℕ-discrete i n) };
-          taken = λ i k. low i k (ℕ-discrete i n);
+          listed = record { few = omega (arith, room m); in-rows = λ i k. row i k (ℕ-discrete i n) };
+          taken = λ i k. less i k (ℕ-discrete i n);
         }
       where
         last : getD (set list n a) n 0 ≡ a
-        last = getD-set-same list n a 0 (omega (arith, listing-room m, h .list-long))
+        last = getD-set-same list n a 0 (omega (arith, room m, h .list-long))
 
         go : (b : ℕ) → b < rows → getD (set next a v) b 0 < mark → Dec (b ≡ a) → Among (set list n a) (n + 1) b
         go b i k (yes q) = record { index = n; below = omega arith; entry = last ∙ sym q }
         go b i k (no z) =
             let x = h .lists b i (rw (getD-set-other next a b v 0 z) at k) in
-            record {
-              index = x .index;
-              below = omega (arith, x .below);
-              entry = getD-set-other list n (x .index) a 0 (λ q. omega (arith, x .below)) ∙ x .entry;
-            }
+            record { index = x .index; below = omega (arith, x .below); entry = kept (x .index) (x .below) ∙ x .entry }
 
         row : (i : ℕ) → i < n + 1 → Dec (i ≡ n) → getD (set list n a) i 0 < rows
         row i k (yes q) = rw (q, last) l
-        row i k (no z) = rw (getD-set-other list n i a 0 z) (h .listed .in-rows i (omega arith))
+        row i k (no z) = rw (kept i (omega arith)) (h .listed .in-rows i (omega arith))
 
-        low : (i : ℕ) → i < n + 1 → Dec (i ≡ n) → getD (set next a v) (getD (set list n a) i 0) 0 < mark
-        low i k (yes q) = rw (q, last, here) v-low
-        low i k (no z) = rw (getD-set-other list n i a 0 z) (still (getD list i 0) (h .taken i (omega arith)))
+        less : (i : ℕ) → i < n + 1 → Dec (i ≡ n) → getD (set next a v) (getD (set list n a) i 0) 0 < mark
+        less i k (yes q) = rw (q, last, here) low
+        less i k (no z) = rw (kept i (omega arith)) (still (getD list i 0) (h .taken i (omega arith)))
 
-    -- row a takes an offer
-    pub listing-more : (next′ list′ : List ℕ) (n′ : ℕ) → RowListed list n a (getD next a 0) list′ n′ → next′ ≡ set next a v → Listing next′ list′ n′ rows
-    listing-more next′ list′ n′ r e = go (decLt (getD next a 0) mark)
-      where
-        go : Dec (getD next a 0 < mark) → Listing next′ list′ n′ rows
-        go (yes m) =
-            let t = lt-ltb (getD next a 0) mark m in
-            rw (e, r .list-is, r .count-is, t) (again m)
-        go (no m) =
-            let t = le-ltb (getD next a 0) mark (omega arith) in
-            rw (e, r .list-is, r .count-is, t) (new (omega arith))
+  -- row a has this offer now
+  pub listing-next : {v : ℕ} {list′ : List ℕ} {n′ : ℕ} → v ≤ getD next a 0 → RowListed list n a (getD next a 0) v list′ n′ → Listing (set next a v) list′ n′ rows
+  listing-next {v} {list′} {n′} le r = go (decLt (getD next a 0) mark) (decLt v mark)
+    where
+      go : Dec (getD next a 0 < mark) → Dec (v < mark) → Listing (set next a v) list′ n′ rows
+      go (yes m) d =
+          let t = lt-ltb (getD next a 0) mark m in
+          let low : v < mark = omega arith in
+          rw (r .list-is, r .count-is, t) (again low m)
+      go (no m) (yes k) =
+          let t = le-ltb (getD next a 0) mark (omega arith) in
+          rw (r .list-is, r .count-is, t, lt-ltb v mark k) (new k (omega arith))
+      go (no m) (no k) =
+          let t = le-ltb (getD next a 0) mark (omega arith) in
+          rw (r .list-is, r .count-is, t, le-ltb v mark (omega arith)) (same (omega (arith, h .marked a l)))

@@ -1,102 +1,157 @@
 -- Planning a table: what the parts of the search make of the promise. Assumes nothing.
-use mathlib.Core.Path.{_≡_, sym, _∙_}
+use mathlib.Core.Path.{_≡_, refl, sym, ap, _∙_}
 use mathlib.Core.Bool.{true, false, cond, false≢true}
 use mathlib.Core.List.{List, map}
-use Prim.Native.Nat.{ℕ, _+_, _*_, _≤_, _<_}
-use native.Mathlib.Nat.{mul-le-mul-right, mul-comm}
+use Prim.Native.Nat.{ℕ, _-_, _≤_, _<_}
+use native.Mathlib.Decide.{decLt}
 use native.Mathlib.Omega.{arith}
-use lib.Dec.{leb}
-use lib.ListN.{length, length-map}
+use lib.ListN.{length, getD, length-map}
 use Rattle.area.specs.Entries.{Cleared}
 use Rattle.area.proofs.FilledLaws.{filled}
 use Rattle.grid.specs.Rows.{rowsOf}
+use Rattle.grid.specs.Units.{RowUnits}
 use Rattle.exchange.specs.Deal.{State, Plan, start}
-use Rattle.exchange.specs.Work.{Lawful}
+use Rattle.exchange.specs.Work.{Work, Lawful}
 use Rattle.exchange.specs.Forms.{table}
+use Rattle.exchange.specs.Test.{safeTest}
 use Rattle.exchange.specs.Search.{mostSteps, count, forwards}
 use Rattle.exchange.proofs.Bridge.{lawful}
 use Rattle.exchange.proofs.FormLaws.{table-rising}
+use Rattle.exchange.proofs.TableLaws.{row-self, row-start}
 use Rattle.exchange.proofs.TablePlan.{table-counted, table-earliest}
-use Rattle.exchange.proofs.TablePlan.Forward.{forwards-length}
+use Rattle.exchange.proofs.TablePlan.Forward.{forwards-length, forwards-steps}
 use Rattle.search.specs.declared.Terms.{Terms}
 use Rattle.search.specs.Promise.{suits, Rise, Success}
-use Rattle.search.specs.Layers.{mark, working, Table, Counted, CanWalk, Walked, startTest}
-use Rattle.search.proofs.SuitLaws.{Suits, fit, rows-few, some-units, start↔}
+use Rattle.search.specs.Layers.{mark, working, rowsWork, Caps, Floors, Searchable, Counted, CanWalk, Walked, startBounds, Fitted, Found}
+use Rattle.search.proofs.AlikeLaws.{Alike, count-alike, forwards-alike}
+use Rattle.search.proofs.SuitLaws.{fit, some-units, start↔, units-few}
 
--- a table that suits, with at most n steps
-pub record Fitted (t : Terms) (us costs values places sums work : List ℕ) (n : ℕ) : Type 0 where
-  pub suit : Suits us costs values places sums work
-  pub most : n ≡ mostSteps us
-  pub good : Table t us
-
-pub fitted : {t : Terms} {us costs values places sums work : List ℕ} {n : ℕ}
-    → n ≡ cond (suits us costs values places sums work) (mostSteps us) 0 → (n ≡ 0 → ⊥)
-    → t .rows ≡ cond (leb (rowsOf us) 128) (rowsOf us) 0 → Fitted t us costs values places sums work n
-fitted {t} {us} {costs} {values} {places} {sums} {work} {n} e some rows =
+-- a table that suits
+pub fitted : {t : Terms} {us costs values places sums : List ℕ} (work : List ℕ) {n : ℕ} → n ≡ cond (suits us costs values places sums work) (mostSteps us) 0
+    → (n ≡ 0 → ⊥) → t .rows ≡ length costs → Rise us costs values → length us ≤ 4 → Fitted t us costs values n places sums
+fitted {t} {us} {costs} {values} {places} {sums} work {n} e some rows rise items =
     let f = fit us costs values places sums work n e some in
-    let r : t .rows ≡ rowsOf us = rows-few us (t .rows) rows (f .0 .few) in
-    record { suit = f .0; most = f .1; good = record { rows-are = r; some = rw r (f .0 .some); few = rw r (f .0 .few) } }
+    let r : t .rows ≡ rowsOf us = rows ∙ f .0 .costs-all in
+    record {
+      good = record { rows-are = r; some = rw r (f .0 .some); few = rw r (f .0 .few) };
+      small = record { items = items; rows = f .0 .few };
+      costs-all = f .0 .costs-all;
+      values-all = f .0 .values-all;
+      rise = rise;
+      early = omega (arith, f .1, units-few us, f .0 .few);
+      places-room = omega (arith, f .0 .places-room, f .1);
+      sums-room = omega (arith, f .0 .sums-room, f .1);
+    }
 
-module _ {t : Terms} {us costs values places sums work : List ℕ} {n : ℕ} (f : Fitted t us costs values places sums work n) where
-  pub work-suits : t .rows * (n + 1) ≤ length work
-  work-suits = rw (f .good .rows-are, f .most) (f .suit .work-room)
+module _ {t : Terms} {us costs values places sums : List ℕ} {most : ℕ} (f : Fitted t us costs values most places sums) where
+  law : Lawful (working t us costs values)
+  law = lawful _ (table-rising (t .sides) us costs values (f .costs-all) (f .values-all) (f .rise .costs-rise) (f .rise .values-rise))
 
-  law : Rise us costs values → Lawful (working t us costs values)
-  law r = lawful _ (table-rising (t .sides) us costs values (f .suit .costs-all) (f .suit .values-all) (r .costs-rise) (r .values-rise))
+  -- ---- the search by arrays with the caps and the floors
 
-  -- a start that is not safe
-  pub no-start : startTest t costs values ≡ false → Rise us costs values → (ys : List State) → Plan (table (t .sides) us costs values) ys → ⊥
-  no-start unsafe r ys p =
-      let q = table-counted (t .sides) us costs values (f .suit .costs-all) (f .suit .values-all) (r .costs-rise) (r .values-rise) mark ys p in
-      false≢true (sym unsafe ∙ start↔ t us costs values (f .good) .1 (q .0))
+  module _ {caps floors : List ℕ} (cs : Caps t costs caps (t .rows)) (fs : Floors t values floors (t .rows)) where
+    abbrev w : Work
+    w = rowsWork t us caps floors
 
-  module _ {work′ : List ℕ} {k : ℕ} (c : Counted (working t us costs values) (t .rows) n work′ k) where
-    counted : Rise us costs values → k ≡ count (working t us costs values) mark (mostSteps us)
-    counted r = rw (← f .most) (c .count-is (law r))
+    last-is : t .rows - 1 ≡ rowsOf us - 1
+    last-is = ap (λ (n : ℕ). n - 1) (f .good .rows-are)
 
-    -- no count of steps
-    pub no-count : n < k → Rise us costs values → (ys : List State) → Plan (table (t .sides) us costs values) ys → ⊥
-    no-count l r ys p =
-        let q = table-counted (t .sides) us costs values (f .suit .costs-all) (f .suit .values-all) (r .costs-rise) (r .values-rise) mark ys p in
-        let h = counted r in
-        omega (arith, q .1, f .most)
+    cap-is : (a : ℕ) → a ≤ w .last → getD caps a 0 ≡ working t us costs values .cap a
+    cap-is a l = rw (← f .good .rows-are) (cs .entry a (omega (arith, f .good .some)))
 
-    module _ (l : k ≤ n) where
-      pub can-walk : t .sides .price < mark → length work′ ≡ length work → CanWalk t us costs values work′ k places sums
-      can-walk high same =
+    floor-is : (a : ℕ) → a ≤ w .last → getD floors a 0 ≡ working t us costs values .floor a
+    floor-is a l = rw (← f .good .rows-are) (fs .entry a (omega (arith, f .good .some)))
+
+    alike : Alike w (working t us costs values)
+    alike = record { price-is = refl; last-is = last-is; holds-is = λ a b. refl; cap-is = cap-is; floor-is = floor-is }
+
+    rows-lawful : Lawful w
+    rows-lawful =
+        record {
+          holds-self = row-self us;
+          holds-start = row-start us;
+          cap-rises = λ a b i j h. rw (cap-is a i, cap-is b j) (law .cap-rises a b (omega (arith, last-is)) (omega (arith, last-is)) h);
+          floor-rises = λ a b i j h. rw (floor-is a i, floor-is b j) (law .floor-rises a b (omega (arith, last-is)) (omega (arith, last-is)) h);
+          cap-price = λ a. price a (decLt a (t .rows));
+          cap-last = cap-is (w .last) (omega arith) ∙ rw last-is (law .cap-last);
+          floor-last = rw (floor-is (w .last) (omega arith), last-is) (law .floor-last);
+        }
+      where
+        price : (a : ℕ) → Dec (a < t .rows) → getD caps a 0 ≤ t .sides .price
+        price a (yes l) = rw (cap-is a (omega arith)) (law .cap-price a)
+        price a (no n) = rw (cs .rest a (omega arith)) (omega arith)
+
+    pub searchable : {held : List ℕ} → RowUnits us held (rowsOf us) → t .sides .price < mark → Searchable t us held caps floors
+    searchable u high = record { good = f .good; small = f .small; units-are = u; high = high; lawful = rows-lawful }
+
+    module _ {reached firsts : List ℕ} {k : ℕ} (c : Counted w most reached firsts floors k) where
+      pub can-walk : k ≤ most → CanWalk w reached firsts floors k places sums
+      can-walk l =
+          record { reaches = c .reaches l; places-room = omega (arith, f .places-room); sums-room = omega (arith, f .sums-room) }
+
+      counted : k ≡ count (working t us costs values) mark most
+      counted = c .count-is ∙ count-alike alike mark most
+
+      pub found-none : most < k → Found (working t us costs values) most k places places sums sums
+      found-none l =
+          record { count-is = counted; written = λ m. absurd (omega arith); places-kept = λ _. refl; sums-kept = λ _. refl }
+
+      pub found-plan : t .sides .price < mark → k ≤ most → {places′ sums′ : List ℕ} → Walked w k places places′ sums sums′
+          → Found (working t us costs values) most k places places′ sums sums′
+      found-plan high l {places′} {sums′} walked =
           record {
-            good = f .good;
-            high = high;
-            reached = c .reached l;
-            work-room = omega (arith, mul-le-mul-right (t .rows) l, mul-comm (t .rows) (n + 1), work-suits);
-            places-room = omega (arith, f .suit .places-room, f .most);
-            sums-room = omega (arith, f .suit .sums-room, f .most);
-          }
-
-      -- the plan that the areas hold
-      pub planned-success : t .sides .price < mark → startTest t costs values ≡ true → {places₁ sums₁ places′ sums′ : List ℕ}
-          → (Lawful (working t us costs values) → Walked (working t us costs values) k places places₁ sums sums₁)
-          → Cleared 2 places₁ places′ k → Cleared 4 sums₁ sums′ k → Rise us costs values
-          → Success (table (t .sides) us costs values) k places sums places′ sums′
-      planned-success high safe {places₁} {sums₁} {places′} {sums′} walked cp cs r =
-          let wp = walked (law r) .places-are in
-          let ws = walked (law r) .sums-are in
-          record {
-            plan = xs;
-            earliest =
-                rw (counted r)
-                (table-earliest (t .sides) us costs values (f .suit .costs-all) (f .suit .values-all) (r .costs-rise) (r .values-rise) mark
-                high (some-units us (f .suit .some)) (start↔ t us costs values (f .good) .0 safe) (omega (arith, counted r, f .most)));
-            steps = sym size;
-            places-are = filled 2 _ places places₁ places′ k (long _) (wp .front) (wp .remainder-kept) (wp .length-kept) cp;
-            sums-are = filled 4 _ sums sums₁ sums′ k (long _) (ws .front) (ws .remainder-kept) (ws .length-kept) cs;
+            count-is = counted;
+            written = λ _. record { places-are = rw (← same) (walked .places-are); sums-are = rw (← same) (walked .sums-are) };
+            places-kept = λ m. absurd (omega arith);
+            sums-kept = λ m. absurd (omega arith);
           }
         where
-          xs : List State
-          xs = forwards (working t us costs values) mark k start
+          same : forwards w mark k start ≡ forwards (working t us costs values) mark k start
+          same =
+              forwards-alike alike mark k start (omega arith)
+              (forwards-steps w mark rows-lawful high k start
+              (record { in-deal = omega arith; afforded = omega arith; enough = c .reaches l .enough }))
 
-          size : length xs ≡ k
-          size = forwards-length (working t us costs values) mark k start
+  -- ---- the answers
 
-          long : (f : State → ℕ) → length (map f xs) ≡ k
-          long f = length-map xs f ∙ size
+  -- a start that is not safe
+  pub no-start : safeTest 0 (startBounds t costs values) (t .sides .price) ≡ false → (ys : List State) → Plan (table (t .sides) us costs values) ys → ⊥
+  no-start unsafe ys p =
+      let q = table-counted (t .sides) us costs values (f .costs-all) (f .values-all) (f .rise .costs-rise) (f .rise .values-rise) mark ys p in
+      false≢true (sym unsafe ∙ start↔ t us costs values (f .good) .1 (q .0))
+
+  module _ (all : most ≡ mostSteps us) {k : ℕ} {places′ sums′ : List ℕ} (found : Found (working t us costs values) most k places places′ sums sums′) where
+    counts : k ≡ count (working t us costs values) mark (mostSteps us)
+    counts = rw (← all) (found .count-is)
+
+    -- no count of steps
+    pub no-count : most < k → (ys : List State) → Plan (table (t .sides) us costs values) ys → ⊥
+    no-count l ys p =
+        let q = table-counted (t .sides) us costs values (f .costs-all) (f .values-all) (f .rise .costs-rise) (f .rise .values-rise) mark ys p in
+        omega (arith, q .1, all, counts)
+
+    -- the plan that the areas hold
+    pub planned-success : t .sides .price < mark → safeTest 0 (startBounds t costs values) (t .sides .price) ≡ true → k ≤ most → {places₂ sums₂ : List ℕ}
+        → Cleared 2 places′ places₂ k → Cleared 4 sums′ sums₂ k → Success (table (t .sides) us costs values) k places sums places₂ sums₂
+    planned-success high safe l {places₂} {sums₂} cp cz =
+        let wp = found .written l .places-are in
+        let ws = found .written l .sums-are in
+        record {
+          plan = xs;
+          earliest =
+              rw counts
+              (table-earliest (t .sides) us costs values (f .costs-all) (f .values-all) (f .rise .costs-rise) (f .rise .values-rise) mark
+              high (some-units us (omega (arith, f .good .some, f .good .rows-are))) (start↔ t us costs values (f .good) .0 safe) (omega (arith, counts, all)));
+          steps = sym size;
+          places-are = filled 2 _ places places′ places₂ k (long _) (wp .front) (wp .remainder-kept) (wp .length-kept) cp;
+          sums-are = filled 4 _ sums sums′ sums₂ k (long _) (ws .front) (ws .remainder-kept) (ws .length-kept) cz;
+        }
+      where
+        xs : List State
+        xs = forwards (working t us costs values) mark k start
+
+        size : length xs ≡ k
+        size = forwards-length (working t us costs values) mark k start
+
+        long : (g : State → ℕ) → length (map g xs) ≡ k
+        long g = length-map xs g ∙ size

@@ -1,13 +1,13 @@
 -- Whether the rows, cells and areas suit, and whether the start is safe. Assumes nothing.
-use mathlib.Core.Path.{_≡_, refl, sym, _∙_}
+use mathlib.Core.Path.{_≡_, refl, _∙_}
 use mathlib.Core.Logic.{_↔_}
 use mathlib.Core.Bool.{Bool, true, false, cond, and-eq-true-iff}
 use mathlib.Core.List.{List, [], _∷_, foldr}
-use Prim.Native.Nat.{ℕ, zero, suc, _+_, _-_, _*_, _≤_, _<_}
+use Prim.Native.Nat.{ℕ, zero, suc, _+_, _*_, _≤_, _<_}
 use native.Mathlib.Nat.{mul-le-mul-right}
 use native.Mathlib.Numerals.{add-one}
 use native.Mathlib.Omega.{arith}
-use borrow.Author.Tests.{lt-ltb, le-leb, lt-leb, eq-eqb, ltb-true, leb-true, eqb-true}
+use borrow.Author.Tests.{lt-ltb, le-leb, eq-eqb, ltb-true, leb-true, eqb-true}
 use lib.Dec.{leb}
 use lib.ListN.{length, getD, drop}
 use lib.Seq.{drop-cons}
@@ -17,11 +17,10 @@ use Rattle.grid.proofs.RowLaws.{rows-pos}
 use Rattle.exchange.specs.Deal.{Safe}
 use Rattle.exchange.specs.Forms.{table}
 use Rattle.exchange.specs.Search.{mostSteps}
-use Rattle.exchange.proofs.BoundLaws.{high↔}
-use Rattle.exchange.proofs.Bridge.{coins-low}
-use Rattle.search.proofs.BoolLaws.{and-false}
+use Rattle.exchange.specs.Test.{safeTest}
+use Rattle.exchange.proofs.TestLaws.{test↔}
 use Rattle.search.specs.Promise.{suits}
-use Rattle.search.specs.Layers.{floorOf, Table, startTest}
+use Rattle.search.specs.Layers.{Table, startBounds}
 use Rattle.search.specs.declared.Terms.{Terms}
 
 -- ---- units
@@ -133,29 +132,6 @@ rows-few us r e h = e ∙ rw (le-leb _ _ h)
 
 -- ---- the start
 
-module _ (t : Terms) (costs values : List ℕ) where
-  pub start-under : t .sides .price + getD costs 0 0 + t .sides .supplier < getD costs (t .rows - 1) 0 → false ≡ startTest t costs values
-  unfolding startTest
-  start-under h = sym (rw (lt-leb _ _ h))
-
-  pub start-uncovered : 0 < floorOf t values 0 → false ≡ startTest t costs values
-  unfolding startTest
-  start-uncovered h = sym (rw (lt-leb _ _ h) (and-false (leb (getD costs (t .rows - 1) 0) (t .sides .price + getD costs 0 0 + t .sides .supplier))))
-
-  pub start-safe : getD costs (t .rows - 1) 0 ≤ t .sides .price + getD costs 0 0 + t .sides .supplier
-      → floorOf t values 0 ≤ 0 → true ≡ startTest t costs values
-  unfolding startTest
-  start-safe h k = sym (rw (le-leb _ _ h, le-leb _ _ k))
-
 pub start↔ : (t : Terms) (us costs values : List ℕ) → Table t us
-    → (startTest t costs values ≡ true) ↔ Safe (table (t .sides) us costs values) 0 0
-unfolding startTest
-start↔ t us costs values good = rw (good .rows-are) (
-  λ e.
-      let both = and-eq-true-iff _ _ .0 e in
-      let h : getD costs (rowsOf us - 1) 0 ≤ t .sides .price + getD costs 0 0 + t .sides .supplier = leb-true _ _ (both .0) in
-      record { low = coins-low _ 0 .1 (leb-true _ _ (both .1)); high = high↔ (t .sides .price) _ _ (t .sides .supplier) 0 .1 (omega arith); within = omega arith },
-  λ s.
-      let h : getD costs (rowsOf us - 1) 0 ≤ t .sides .price + getD costs 0 0 + t .sides .supplier = omega (arith, high↔ (t .sides .price) _ _ (t .sides .supplier) 0 .0 (s .high)) in
-      rw (le-leb _ _ h) (le-leb _ _ (coins-low _ 0 .0 (s .low))),
-)
+    → (safeTest 0 (startBounds t costs values) (t .sides .price) ≡ true) ↔ Safe (table (t .sides) us costs values) 0 0
+start↔ t us costs values good = rw (good .rows-are) (test↔ (table (t .sides) us costs values) 0 0)

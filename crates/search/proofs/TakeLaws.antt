@@ -1,4 +1,4 @@
--- The loops at the end of a step: the offers are taken over, and the rows noted in the work area. Assumes nothing.
+-- The loops at the end of a step: the offers are taken over, and first sums noted. Assumes nothing.
 use mathlib.Core.Path.{_≡_, refl, sym, ap, _∙_}
 use mathlib.Core.Bool.{cond}
 use mathlib.Core.List.{List}
@@ -9,7 +9,7 @@ use borrow.Author.Tests.{lt-ltb, le-ltb}
 use lib.Dec.{ltb}
 use lib.ListN.{length, getD, set, length-set}
 use lib.Seq.{getD-set-same, getD-set-other}
-use Rattle.search.specs.Layers.{mark, Listed, Listing, Taken, Reversed, TakenOver, Noted}
+use Rattle.search.specs.Layers.{mark, Listed, Listing, Taken, Reversed, TakenOver, Put, PutAll}
 
 -- ---- the loop that takes the offers over
 
@@ -77,19 +77,50 @@ taken-over {next} {list} {sums} {sums′} {changed} {n} {rows} h t r =
 pub listed-few : {list : List ℕ} {n rows : ℕ} → Listed list n rows → rows ≤ 128 → Listed list n 128
 listed-few h l = record { few = h .few; in-rows = λ i m. omega (arith, h .in-rows i m) }
 
--- ---- the loop that notes the rows in the work area
+-- ---- the loop that notes first sums
 
-pub noted-none : (named : List ℕ) (at : ℕ) (work : List ℕ) → Noted named at work work 0
-noted-none named at work = record { byte-is = λ a h. absurd (omega arith); kept = λ k h. refl }
+pub put-none : (value : ℕ → ℕ) (sums list array : List ℕ) → length array ≡ 128 → Put value sums list array array 0
+put-none value sums list array h = record { long = h; entry = λ i l. absurd (omega arith); kept = λ a n. refl }
 
-pub noted-more : (named : List ℕ) (at : ℕ) (old new : List ℕ) (i v : ℕ) → Noted named at old new i → at + i < length new → v ≡ getD named i 0
-    → Noted named at old (set new (at + i) v) (i + 1)
-noted-more named at old new i v f h e =
+module _ {value : ℕ → ℕ} {sums list before now : List ℕ} {i : ℕ} (h : Put value sums list before now i) where
+  -- the row had a sum
+  pub put-passed : getD sums (getD list i 0) 0 < mark → Put value sums list before now (i + 1)
+  put-passed l =
+      record {
+        long = h .long;
+        entry = λ k m q. old k m q (ℕ-discrete k i);
+        kept = λ a n. h .kept a (λ k m. n k (omega arith));
+      }
+    where
+      old : (k : ℕ) → k < i + 1 → mark ≤ getD sums (getD list k 0) 0 → Dec (k ≡ i) → getD now (getD list k 0) 0 ≡ value (getD list k 0)
+      old k m q (yes z) = absurd (omega (arith, rw z at q))
+      old k m q (no z) = h .entry k (omega arith) q
+
+  -- it had none
+  pub put-more : (a v : ℕ) → a ≡ getD list i 0 → a < 128 → mark ≤ getD sums a 0 → v ≡ value a → Put value sums list before (set now a v) (i + 1)
+  put-more a v e l p f =
+      record {
+        long = length-set now a v ∙ h .long;
+        entry = λ k m q. at k m q (ℕ-discrete (getD list k 0) a);
+        kept = λ b n. getD-set-other now a b v 0 (λ q. n i (omega arith) (sym e ∙ sym q) (rw q p)) ∙ h .kept b (λ k m. n k (omega arith));
+      }
+    where
+      at : (k : ℕ) → k < i + 1 → mark ≤ getD sums (getD list k 0) 0 → Dec (getD list k 0 ≡ a) → getD (set now a v) (getD list k 0) 0 ≡ value (getD list k 0)
+      at k m q (yes z) = rw (z, ← f) (getD-set-same now a v 0 (omega (arith, h .long)))
+      at k m q (no n) = getD-set-other now a (getD list k 0) v 0 n ∙ h .entry k (earlier (ℕ-discrete k i)) q
+        where
+          earlier : Dec (k ≡ i) → k < i
+          earlier (yes z) = absurd (n (ap (λ (x : ℕ). getD list x 0) z ∙ sym e))
+          earlier (no z) = omega arith
+
+-- the rows of the list are those with an offer
+pub put-all : {value : ℕ → ℕ} {next sums list before after : List ℕ} {n rows : ℕ} → Listing next list n rows → Put value sums list before after n
+    → PutAll value next sums before after rows
+put-all h p =
     record {
-      byte-is = λ a l. go a l (ℕ-discrete a i);
-      kept = λ k l. getD-set-other new (at + i) k v 0 (λ q. omega arith) ∙ f .kept k l;
+      long = p .long;
+      entry = λ a l m q.
+          let x = h .lists a l m in
+          rw (← x .entry) (p .entry (x .index) (x .below) (rw (x .entry) q));
+      kept = λ a l n. p .kept a (λ i k e. n (rw (← e) (h .taken i k)));
     }
-  where
-    go : (a : ℕ) → a < i + 1 → Dec (a ≡ i) → getD (set new (at + i) v) (at + a) 0 ≡ getD named a 0
-    go a l (yes q) = rw (q, ← e) (getD-set-same new (at + i) v 0 h)
-    go a l (no n) = getD-set-other new (at + i) (at + a) v 0 (λ q. n (omega arith)) ∙ f .byte-is a (omega arith)

@@ -1,26 +1,29 @@
--- The plan read forwards from the layers in the work area. Assumes nothing.
+-- The plan read forwards. Assumes nothing.
 use mathlib.Core.Path.{_≡_, refl, sym, ap, subst, _∙_}
-use mathlib.Core.Bool.{Bool, true, false, cond, _&&_}
+use mathlib.Core.Bool.{Bool, true, false, _&&_}
 use mathlib.Core.List.{List, [], _∷_, _++_, map, append-nil, append-assoc}
-use Prim.Native.Nat.{ℕ, zero, suc, _+_, _-_, _*_, _≤_, _<_}
-use native.Mathlib.Nat.{mul-le-mul-right, add-zero, zero-add}
+use Prim.Native.Nat.{ℕ, zero, suc, _+_, _-_, _≤_, _<_}
+use native.Mathlib.Nat.{add-zero, zero-add}
 use native.Mathlib.Numerals.{add-one}
 use native.Mathlib.Omega.{arith}
-use borrow.Author.Tests.{le-leb, lt-leb, lt-ltb, le-ltb, eq-eqb, ne-eqb}
-use lib.Dec.{leb, ltb}
+use borrow.Author.Tests.{le-leb, lt-leb}
+use lib.Dec.{leb}
 use lib.ListN.{length, getD}
 use lib.Seq.{take-suc-set}
 use Rattle.area.specs.Entries.{entries, Stored}
+use Rattle.area.proofs.FilledLaws.{entries-same}
 use Rattle.exchange.specs.Deal.{State, start}
 use Rattle.exchange.specs.Work.{Work, Lawful, WorkSteps}
+use Rattle.exchange.specs.Forms.{holdsRow}
 use Rattle.exchange.specs.Search.{need, fits, firstOf, forward, forwards}
 use Rattle.exchange.proofs.GivenOrder.Run.{state-eq}
 use Rattle.exchange.proofs.TablePlan.Forward.{forwards-steps}
-use Rattle.area.proofs.FilledLaws.{entries-same}
+use Rattle.held.specs.Words.{holdsWord}
+use Rattle.held.proofs.WordLaws.{held-word}
 use Rattle.search.specs.declared.Terms.{Terms}
-use Rattle.search.specs.Layers.{capOf, byteSays, mark, working, Table, Named, needRead, firstRow, Written, Walked, CanWalk}
-use Rattle.search.proofs.CountLaws.{all-rows}
-use Rattle.search.proofs.LimitLaws.{cap-is, floor-is}
+use Rattle.search.specs.Layers.{mark, rowsWork, Searchable, needRead, delivers, firstRow, Written, Walked, CanWalk}
+use Rattle.search.proofs.LimitLaws.{not-held}
+use Rattle.search.proofs.AlikeLaws.{first-ext}
 use Rattle.search.proofs.BoolLaws.{and-false, and-true}
 
 -- ---- one row's test
@@ -37,13 +40,6 @@ module _ (t : Bool) (needs cap floor paid : ℕ) where
 
 -- ---- the first row that passes
 
-first-ext : (f g : ℕ → Bool) (i k : ℕ) → ((b : ℕ) → b < i + k → f b ≡ g b) → firstOf f i k ≡ firstOf g i k
-unfolding firstOf
-first-ext f g i zero h = refl
-first-ext f g i (suc k) h =
-    let e : f i ≡ g i = h i (omega arith) in
-    rw (e, first-ext f g (suc i) k (λ b l. h b (omega arith)))
-
 -- numbers that do not pass may be left out
 first-skip : (f : ℕ → Bool) (i c k : ℕ) → ((b : ℕ) → i ≤ b → b < i + c → f b ≡ false) → firstOf f i (c + k) ≡ firstOf f (i + c) k
 unfolding firstOf
@@ -54,68 +50,36 @@ first-skip f i (suc c) k h =
     rw (d, h i (omega arith) (omega arith), e) (first-skip f (suc i) c k (λ b l m. h b (omega arith) (omega arith)))
 
 -- the rows from a to b are passed over
-pub record Looking (w : Work) (needs : ℕ → ℕ) (a paid rows b : ℕ) : Type 0 where
-  pub from : a ≤ b
+pub record Looking (held floors : List ℕ) (needs : ℕ → ℕ) (cap a paid rows b : ℕ) : Type 0 where
   pub within : b ≤ rows
-  pub same : a < rows → firstRow w needs a paid b (rows - b) ≡ firstRow w needs a paid 0 rows
+  pub same : firstRow held floors needs cap a paid rows b ≡ firstRow held floors needs cap a paid rows a
 
-module _ (w : Work) (needs : ℕ → ℕ) (a paid rows : ℕ) where
-  -- no row below row a holds its units
-  pub looking-start : a ≤ rows → ((b : ℕ) → a < rows → b < a → w .holds a b ≡ false) → Looking w needs a paid rows a
-  unfolding firstRow
-  looking-start h below =
-      record {
-        from = omega arith;
-        within = h;
-        same = λ l.
-            let e : a + (rows - a) ≡ rows = omega arith in
-            sym (rw (e, zero-add a) at (first-skip (fits w needs (record { place = a; paid = paid })) 0 a (rows - a) (λ b m k. rw (below b l (omega arith)))));
-      }
+pub looking-start : {held floors : List ℕ} {needs : ℕ → ℕ} {cap a paid rows : ℕ} → a < rows → Looking held floors needs cap a paid rows a
+looking-start h = record { within = omega arith; same = refl }
 
-  pub looking-none : (b : ℕ) → Looking w needs a paid rows b → rows ≤ b → a < rows → rows ≡ firstRow w needs a paid 0 rows
+module _ {held floors : List ℕ} {needs : ℕ → ℕ} {cap a paid rows b : ℕ} (l : Looking held floors needs cap a paid rows b) where
+  pub looking-none : rows ≤ b → rows ≡ firstRow held floors needs cap a paid rows a
   unfolding firstRow firstOf
-  looking-none b l h m =
+  looking-none h =
       let z : rows - b ≡ 0 = omega arith in
       let e : b ≡ rows = omega (arith, l .within) in
-      sym e ∙ (rw z at (l .same m))
+      sym e ∙ (rw z at (l .same))
 
-  module _ (b need cap floor : ℕ) (r : Bool) (l : Looking w needs a paid rows b) (more : b < rows) (n : need ≡ needs b) (c : cap ≡ w .cap a)
-      (f : floor ≡ w .floor b) (e : r ≡ (w .holds a b && leb need cap && leb floor paid)) where
+  module _ (need : ℕ) (r : Bool) (more : b < rows) (n : need ≡ needs b)
+      (e : r ≡ (holdsWord 4 (getD held a 0) (getD held b 0) && leb need cap && leb (getD floors b 0) paid)) where
     one : rows - b ≡ suc (rows - (b + 1))
     one = omega arith
 
-    test : r ≡ fits w needs (record { place = a; paid = paid }) b
-    test = rw (← n, ← c, ← f) e
+    tested : r ≡ delivers held floors needs cap a paid b
+    tested = rw (← n) e
 
-    pub looking-found : r ≡ true → a < rows → b ≡ firstRow w needs a paid 0 rows
+    pub looking-found : r ≡ true → b ≡ firstRow held floors needs cap a paid rows a
     unfolding firstRow firstOf
-    looking-found t m = sym (rw (one, ← test, t)) ∙ l .same m
+    looking-found t = sym (rw (one, ← tested, t)) ∙ l .same
 
-    pub looking-next : r ≡ false → Looking w needs a paid rows (b + 1)
+    pub looking-next : r ≡ false → Looking held floors needs cap a paid rows (b + 1)
     unfolding firstRow firstOf
-    looking-next t = record { from = omega (arith, l .from); within = omega arith; same = λ m. sym (rw (one, ← test, t, add-one)) ∙ l .same m }
-
--- ---- what each row needs, from the work bytes
-
-module _ (t : Terms) (values work : List ℕ) (j b : ℕ) where
-  pub read-layer : (r : ℕ) → 0 < j → r ≡ byteSays t values (getD work (j * t .rows + b) 0) → r ≡ needRead t values work j b
-  read-layer r p e = rw (lt-ltb 0 j p) e
-
-  pub read-last : j ≤ 0 → b ≡ t .rows - 1 → t .sides .price ≡ needRead t values work j b
-  read-last z e = rw (le-ltb 0 j z, eq-eqb b (t .rows - 1) e)
-
-  pub read-other : j ≤ 0 → (b ≡ t .rows - 1 → ⊥) → mark ≡ needRead t values work j b
-  read-other z n = rw (le-ltb 0 j z, ne-eqb b (t .rows - 1) n)
-
--- it is what the row needs, where the work area names the rows of the layers
-read-is : (t : Terms) (us costs values work : List ℕ) (j : ℕ) → Table t us → Named (working t us costs values) (t .rows) work j
-    → (b : ℕ) → b < t .rows → needRead t values work j b ≡ need (working t us costs values) mark j b
-unfolding need
-read-is t us costs values work zero good named b l = rw (good .rows-are)
-read-is t us costs values work (suc j) good named b l =
-    sym (read-layer t values work (suc j) b _ (omega arith) refl)
-    ∙ ap (λ (z : ℕ). cond (ltb (getD work (suc j * t .rows + b) 0) 128) z mark) (floor-is t us costs values good _ (getD work (suc j * t .rows + b) 0) refl)
-    ∙ named (suc j) b (omega arith) (omega arith) l
+    looking-next t = record { within = omega arith; same = sym (rw (one, ← tested, t, add-one)) ∙ l .same }
 
 -- ---- the walk
 
@@ -144,57 +108,70 @@ written-more w f xs s before now after k h l st =
       length-kept = st .length-kept ∙ h .length-kept;
     }
 
-pub walking-start : (t : Terms) (us costs values work : List ℕ) (steps : ℕ) (places sums : List ℕ) → CanWalk t us costs values work steps places sums
-    → Lawful (working t us costs values) → Walking (working t us costs values) steps places places sums sums steps 0 0 0
-walking-start t us costs values work steps places sums can law =
+pub walking-start : (w : Work) {reached firsts floors : List ℕ} {steps : ℕ} {places sums : List ℕ} → Lawful w → w .price < mark
+    → CanWalk w reached firsts floors steps places sums → Walking w steps places places sums sums steps 0 0 0
+walking-start w {reached} {firsts} {floors} {steps} {places} {sums} law high can =
     record {
       front = [];
       whole = refl;
       in-deal = omega arith;
       on =
-          forwards-steps (working t us costs values) mark law (can .high) steps start
-          (record { in-deal = omega arith; afforded = omega arith; enough = can .reached .enough });
+          forwards-steps w mark law high steps start
+          (record { in-deal = omega arith; afforded = omega arith; enough = can .reaches .enough });
       places-are = written-none 2 places;
       sums-are = written-none 4 sums;
     }
 
 -- one turn
-module _ (w : Work) (rows : ℕ) (all : rows ≡ suc (w .last)) (needs : ℕ → ℕ) (m a paid : ℕ) (reads : (b : ℕ) → b < rows → needs b ≡ need w mark m b) where
-  -- the row found is that of the step forward
-  row-forward : firstRow w needs a paid 0 rows ≡ forward w mark m (record { place = a; paid = paid }) .place
+module _ {t : Terms} {us held caps floors : List ℕ} (g : Searchable t us held caps floors) (needs : ℕ → ℕ) (m a paid : ℕ) (here : a < t .rows)
+    (reads : (b : ℕ) → b ≤ t .rows - 1 → needs b ≡ need (rowsWork t us caps floors) mark m b) where
+  abbrev w : Work
+  w = rowsWork t us caps floors
+
+  -- row b holds row a by their words
+  held-is : (b : ℕ) → b < t .rows → holdsWord 4 (getD held a 0) (getD held b 0) ≡ holdsRow us a b
+  held-is b l =
+      rw (g .units-are .word-at a (omega (arith, g .good .rows-are)), g .units-are .word-at b (omega (arith, g .good .rows-are)))
+      (held-word us a b (g .small))
+
+  -- the row found is that of the step forward: no row below row a holds its units
+  row-forward : firstRow held floors needs (getD caps a 0) a paid (t .rows) a ≡ forward w mark m (record { place = a; paid = paid }) .place
   unfolding firstRow forward
   row-forward =
-      rw all
-      (first-ext (fits w needs (record { place = a; paid = paid })) (fits w (need w mark m) (record { place = a; paid = paid })) 0 (suc (w .last))
-      (λ b l. ap (λ (z : ℕ). w .holds a b && leb z (w .cap a) && leb (w .floor b) paid) (reads b (omega arith))))
+      let all : a + (t .rows - a) ≡ suc (w .last) = omega (arith, g .good .some) in
+      let f = fits w (need w mark m) (record { place = a; paid = paid }) in
+      first-ext (delivers held floors needs (getD caps a 0) a paid) f a (t .rows - a)
+      (λ b m l. rw (held-is b (omega arith), reads b (omega (arith, g .good .some))))
+      ∙ sym (rw (zero-add a) at (first-skip f 0 a (t .rows - a) (λ b i l. rw (not-held us a b (omega (arith, g .good .rows-are)) (omega arith)))))
+      ∙ ap (firstOf f 0) all
 
-  module _ (steps : ℕ) (places₀ places sums₀ sums : List ℕ) (k : ℕ) (h : Walking w steps places₀ places sums₀ sums (suc m) k a paid)
+  module _ {steps : ℕ} {places₀ places sums₀ sums : List ℕ} {k : ℕ} (h : Walking w steps places₀ places sums₀ sums (suc m) k a paid)
       (places-room : k < length (entries 2 places₀)) (sums-room : k < length (entries 4 sums₀)) where
-    pub walking-turn : (b pay : ℕ) (places′ sums′ : List ℕ) → b ≡ firstRow w needs a paid 0 rows → pay ≡ w .cap a
+    pub walking-turn : {b pay : ℕ} {places′ sums′ : List ℕ} → b ≡ firstRow held floors needs (getD caps a 0) a paid (t .rows) a → pay ≡ getD caps a 0
         → Stored 2 places places′ k b → Stored 4 sums sums′ k pay → Walking w steps places₀ places′ sums₀ sums′ m (k + 1) b pay
     unfolding forwards forward
-    walking-turn b pay places′ sums′ e f p q =
+    walking-turn {b} {pay} {places′} {sums′} e f p q =
         record {
-          front = h .front ++ t ∷ [];
-          whole = rw (append-assoc (h .front) (t ∷ []) (forwards w mark m t)) (next ∙ h .whole);
+          front = h .front ++ u ∷ [];
+          whole = rw (append-assoc (h .front) (u ∷ []) (forwards w mark m u)) (next ∙ h .whole);
           in-deal = subst (λ (z : State). z .place ≤ w .last) (sym one) (h .on .0 .in-deal);
           on = subst (λ (z : State). WorkSteps w z (forwards w mark m z)) (sym one) (h .on .1);
-          places-are = written-more 2 (λ s. s .place) (h .front) t places₀ places places′ k (h .places-are)
+          places-are = written-more 2 (λ s. s .place) (h .front) u places₀ places places′ k (h .places-are)
               (omega (arith, entries-same 2 places₀ places (h .places-are .length-kept))) p;
-          sums-are = written-more 4 (λ s. s .paid) (h .front) t sums₀ sums sums′ k (h .sums-are)
+          sums-are = written-more 4 (λ s. s .paid) (h .front) u sums₀ sums sums′ k (h .sums-are)
               (omega (arith, entries-same 4 sums₀ sums (h .sums-are .length-kept))) q;
         }
       where
         s : State
         s = record { place = a; paid = paid }
 
-        t : State
-        t = record { place = b; paid = pay }
+        u : State
+        u = record { place = b; paid = pay }
 
-        one : t ≡ forward w mark m s
+        one : u ≡ forward w mark m s
         one = state-eq (e ∙ row-forward) f
 
-        next : (h .front ++ t ∷ forwards w mark m t) ≡ (h .front ++ forwards w mark (suc m) s)
+        next : (h .front ++ u ∷ forwards w mark m u) ≡ (h .front ++ forwards w mark (suc m) s)
         next = rw one
 
 pub walking-done : (w : Work) (steps : ℕ) (places₀ places sums₀ sums : List ℕ) (left k a paid : ℕ)
@@ -205,56 +182,47 @@ walking-done w steps places₀ places sums₀ sums left k a paid h c z =
     let f : h .front ≡ forwards w mark steps start = sym (append-nil (h .front)) ∙ (rw z at (h .whole)) in
     record { places-are = rw (← f, ← e) (h .places-are); sums-are = rw (← f, ← e) (h .sums-are) }
 
--- the walk as the code has it: row a may be past the last one only where the bounds do not rise
-pub record Going (w : Work) (rows steps : ℕ) (places₀ places sums₀ sums : List ℕ) (left k a paid : ℕ) : Type 0 where
+-- the walk as the code has it
+pub record Going (w : Work) (steps : ℕ) (places₀ places sums₀ sums : List ℕ) (left k a paid : ℕ) : Type 0 where
   pub counts : k + left ≡ steps
-  pub in-rows : a ≤ rows
   pub places-long : length places ≡ length places₀
   pub sums-long : length sums ≡ length sums₀
-  pub walking : Lawful w → Walking w steps places₀ places sums₀ sums left k a paid
+  pub walking : Walking w steps places₀ places sums₀ sums left k a paid
 
-module _ (t : Terms) (us costs values work : List ℕ) (steps : ℕ) (places₀ sums₀ : List ℕ) (can : CanWalk t us costs values work steps places₀ sums₀) where
-  pub going-start : Going (working t us costs values) (t .rows) steps places₀ places₀ sums₀ sums₀ steps 0 0 0
+module _ {t : Terms} {us held caps floors reached firsts : List ℕ} {steps : ℕ} {places₀ sums₀ : List ℕ} (g : Searchable t us held caps floors)
+    (can : CanWalk (rowsWork t us caps floors) reached firsts floors steps places₀ sums₀) where
+  pub going-start : Going (rowsWork t us caps floors) steps places₀ places₀ sums₀ sums₀ steps 0 0 0
   going-start =
       record {
         counts = omega arith;
-        in-rows = omega arith;
         places-long = refl;
         sums-long = refl;
-        walking = walking-start t us costs values work steps places₀ sums₀ can;
+        walking = walking-start (rowsWork t us caps floors) (g .lawful) (g .high) can;
       }
 
-  module _ {places sums : List ℕ} {left k a paid : ℕ} (h : Going (working t us costs values) (t .rows) steps places₀ places sums₀ sums left k a paid) where
-    pub going-room : 0 < left → suc (left - 1) * t .rows ≤ length work
-    going-room more =
-        let e : suc (left - 1) ≤ steps = omega (arith, h .counts) in
-        omega (arith, mul-le-mul-right (t .rows) e, can .work-room)
+  module _ {places sums : List ℕ} {left k a paid : ℕ} (h : Going (rowsWork t us caps floors) steps places₀ places sums₀ sums left k a paid) where
+    pub going-in : a < t .rows
+    going-in = omega (arith, h .walking .in-deal, g .good .some)
 
-    pub going-on : {p b pay : ℕ} {places′ sums′ : List ℕ} → 0 < left → p ≡ paid → b ≤ t .rows
-        → (a < t .rows → b ≡ firstRow (working t us costs values) (needRead t values work (left - 1)) a p 0 (t .rows)) → pay ≡ capOf t costs a
-        → Stored 2 places places′ k b → Stored 4 sums sums′ k pay
-        → Going (working t us costs values) (t .rows) steps places₀ places′ sums₀ sums′ (left - 1) (k + 1) b pay
-    going-on {p} {b} {pay} {places′} {sums′} more q i e f x y =
+    -- the cap of a row is below the mark
+    pub going-pays : getD caps a 0 < mark
+    going-pays = omega (arith, g .lawful .cap-price a, g .high)
+
+    pub going-on : {b pay : ℕ} {places′ sums′ : List ℕ} → 0 < left
+        → b ≡ firstRow held floors (needRead reached firsts floors (left - 1)) (getD caps a 0) a paid (t .rows) a → pay ≡ getD caps a 0
+        → Stored 2 places places′ k b → Stored 4 sums sums′ k pay → Going (rowsWork t us caps floors) steps places₀ places′ sums₀ sums′ (left - 1) (k + 1) b pay
+    going-on more e f x y =
+        let one : left ≡ suc (left - 1) = omega arith in
         record {
           counts = omega (arith, h .counts);
-          in-rows = i;
           places-long = x .length-kept ∙ h .places-long;
           sums-long = y .length-kept ∙ h .sums-long;
-          walking = λ law. on (h .walking law);
+          walking =
+              walking-turn g (needRead reached firsts floors (left - 1)) (left - 1) a paid going-in
+              (λ b l. can .reaches .says (left - 1) b (omega (arith, h .counts)) l)
+              (subst (λ (z : ℕ). Walking (rowsWork t us caps floors) steps places₀ places sums₀ sums z k a paid) one (h .walking))
+              (omega (arith, can .places-room, h .counts)) (omega (arith, can .sums-room, h .counts)) e f x y;
         }
-      where
-        on : Walking (working t us costs values) steps places₀ places sums₀ sums left k a paid
-            → Walking (working t us costs values) steps places₀ places′ sums₀ sums′ (left - 1) (k + 1) b pay
-        on g =
-            let w = working t us costs values in
-            let one : left ≡ suc (left - 1) = omega arith in
-            let all = all-rows t us (can .good) in
-            let found : b ≡ firstRow w (needRead t values work (left - 1)) a paid 0 (t .rows) = rw (← q) (e (omega (arith, g .in-deal, all))) in
-            walking-turn w (t .rows) all (needRead t values work (left - 1)) (left - 1) a paid
-            (read-is t us costs values work (left - 1) (can .good) (λ i c some le l. can .reached .named i c some (omega (arith, h .counts)) l))
-            steps places₀ places sums₀ sums k (subst (λ (z : ℕ). Walking w steps places₀ places sums₀ sums z k a paid) one g)
-            (omega (arith, can .places-room, h .counts)) (omega (arith, can .sums-room, h .counts)) b pay places′ sums′ found
-            (cap-is t us costs values (can .good) pay a f) x y
 
-    pub going-done : left ≡ 0 → Lawful (working t us costs values) → Walked (working t us costs values) steps places₀ places sums₀ sums
-    going-done z law = walking-done (working t us costs values) steps places₀ places sums₀ sums left k a paid (h .walking law) (h .counts) z
+    pub going-done : left ≡ 0 → Walked (rowsWork t us caps floors) steps places₀ places sums₀ sums
+    going-done z = walking-done (rowsWork t us caps floors) steps places₀ places sums₀ sums left k a paid (h .walking) (h .counts) z

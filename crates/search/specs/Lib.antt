@@ -1,3 +1,2 @@
 pub mod Promise
-pub mod Units
 pub mod Layers

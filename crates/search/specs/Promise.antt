@@ -44,7 +44,7 @@ Answers d suit Planned.Impossible places sums work places′ sums′ work′ =
 Answers d suit Planned.Unfit places sums work places′ sums′ work′ =
     (suit ≡ false) × ((places′ ≡ places) × ((sums′ ≡ sums) × (work′ ≡ work)))
 
--- the promise of planning a table whose cells rise
+-- the promise of planning a table, which asks for cells that rise
 abbrev pub Plans : Sides → List ℕ → List ℕ → List ℕ → Planned → List ℕ → List ℕ → List ℕ → List ℕ → List ℕ → List ℕ → Type 0
 Plans p us costs values r places sums work places′ sums′ work′ =
-    Rise us costs values → Answers (table p us costs values) (suits us costs values places sums work) r places sums work places′ sums′ work′
+    Answers (table p us costs values) (suits us costs values places sums work) r places sums work places′ sums′ work′

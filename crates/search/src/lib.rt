@@ -3,25 +3,24 @@ ghost use mathlib.Core.Path.{_≡_};
 ghost use mathlib.Core.Bool.{cond};
 ghost use mathlib.Core.List.{foldr};
 ghost use Prim.Native.Nat.{_+_, _<_, _≤_};
+ghost use lib.ListN.{length};
 ghost use Rattle.grid.specs.Rows.{rowsOf};
 ghost use Rattle.exchange.specs.Search.{mostSteps};
-ghost use Rattle.exchange.specs.Forms.{holdsRow};
-ghost use Rattle.search.specs.Promise.{Plans, suits};
-ghost use Rattle.search.specs.Layers.{startTest};
+ghost use Rattle.exchange.specs.Test.{safeTest};
+ghost use Rattle.search.specs.Promise.{Plans, suits, Rise};
+ghost use Rattle.search.specs.Layers.{startBounds, working, Fitted, Found};
 
 mod layers;
 mod limits;
-mod units;
 mod walk;
 
 use exchange::Planned;
 use exchange::Sides;
 use layers::count_steps;
-use limits::cell;
-use limits::floor;
-use limits::wide32;
-pub use units::all_units;
-pub use units::row_holds;
+use layers::first_reached;
+use layers::first_sums;
+use limits::all_caps;
+use limits::all_floors;
 
 // P and the defection costs, and the number of rows.
 struct Terms {
@@ -36,25 +35,6 @@ fn wide16(x: u16) -> usize
     ensures { λ r. ⌜ (r ≡ x) × (r < 65536) ⌝ }
 {
     x as usize
-}
-
-// Whether row b holds at least the units of row a of every item. Goes from the last item, which runs fastest, to the first.
-fn holds(units: &[u16], a: usize, b: usize) -> bool
-    ensures { λ r. ⌜ r ≡ holdsRow (now (units .entry)) a b ⌝ }
-{
-    let mut j = units.len();
-    let mut p = a;
-    let mut q = b;
-    while 0 < j {
-        j -= 1;
-        let n = wide16(units[j]) + 1;
-        if q % n < p % n {
-            return false;
-        }
-        p = p / n;
-        q = q / n;
-    }
-    true
 }
 
 // All units. A table of so few rows has fewer units than rows.
@@ -105,24 +85,66 @@ fn most_steps(
     most
 }
 
-// Whether the start, nothing delivered and nothing paid, is safe.
+// Whether the start, nothing delivered and nothing paid, is safe, by the bounds of row 0.
 fn starts(t: Terms, costs: &[u32], values: &[u32]) -> bool
-    requires { ⌜ 0 < t .rows ⌝ }
-    ensures { λ r. ⌜ r ≡ startTest t (now (costs .entry)) (now (values .entry)) ⌝ }
+    requires { ⌜ (0 < t .rows) × (length (now costs) ≡ t .rows) × (length (now values) ≡ t .rows) ⌝ }
+    ensures { λ r. ⌜ r ≡ safeTest 0 (startBounds t (now (costs .entry)) (now (values .entry))) (t .sides .price) ⌝ }
 {
     let last = t.rows - 1;
-    let high = wide32(t.sides.price) + cell(costs, 0) + wide32(t.sides.supplier);
-    if high < cell(costs, last) {
-        return false;
-    }
-    if 0 < floor(t, values, 0) {
-        return false;
-    }
-    true
+    let lower = exchange::lower(t.sides.price, values[last], values[0], t.sides.buyer);
+    let upper = exchange::upper(t.sides.price, costs[last], costs[0], t.sides.supplier);
+    exchange::safe(0, exchange::Bounds { lower, upper }, t.sides.price)
 }
 
-// Plans a table with fewest steps over all orders. The cells rise as units are added, as the record reader promises. Without a plan the
-// areas of places and sums stay.
+// Searches for the fewest steps and writes a plan with so many; its count of steps, and one more than the most where there is none. Then the
+// areas stay.
+fn search_rows(
+    t: Terms,
+    units: &[u16],
+    costs: &[u32],
+    values: &[u32],
+    most: usize,
+    places: &mut [u8],
+    sums: &mut [u8],
+) -> usize
+    requires { ⌜ Fitted t (now units) (now costs) (now values) most (now places) (now sums) ⌝ }
+    ensures { λ r. ⌜ Found (working t (now (units .entry)) (now (costs .entry)) (now (values .entry))) most r (now (places .entry)) (now (places .exit)) (now (sums .entry)) (now (sums .exit)) ⌝ }
+{
+    let held = grid::all_units(units);
+    let mut caps = [0u64; 128];
+    all_caps(t, costs, &mut caps);
+    let mut floors = [0u64; 128];
+    all_floors(t, values, &mut floors);
+    let mut reached = first_reached(t);
+    let mut firsts = first_sums(t);
+    let n = count_steps(
+        t,
+        units,
+        &held,
+        &caps,
+        &floors,
+        most,
+        &mut reached,
+        &mut firsts,
+    );
+    if n <= most {
+        walk::walk(
+            t,
+            units,
+            &held,
+            &caps,
+            &floors,
+            &reached,
+            &firsts,
+            n,
+            places,
+            sums,
+        );
+    }
+    n
+}
+
+// Plans a table with fewest steps over all orders. Without a plan the areas of places and sums stay.
 pub fn plan(
     sides: Sides,
     units: &[u16],
@@ -132,6 +154,7 @@ pub fn plan(
     sums: &mut [u8],
     work: &mut [u8],
 ) -> Planned
+    requires { ⌜ Rise (now units) (now costs) (now values) × (length (now units) ≤ 4) ⌝ }
     ensures { λ r. ⌜ Plans sides (now (units .entry)) (now (costs .entry)) (now (values .entry)) r (now (places .entry)) (now (sums .entry)) (now (work .entry)) (now (places .exit)) (now (sums .exit)) (now (work .exit)) ⌝ }
 {
     let most = most_steps(units, costs, values, places, sums, work);
@@ -140,21 +163,18 @@ pub fn plan(
     }
     let t = Terms {
         sides,
-        rows: grid::row_count(units),
+        rows: costs.len(),
     };
     if !starts(t, costs, values) {
         area::clear(work);
         return Planned::Impossible;
     }
-    let held = all_units(units, t.rows);
-    let n = count_steps(t, units, &held, costs, values, most, work);
+    let n = search_rows(t, units, costs, values, most, places, sums);
+    area::clear(work);
     if most < n {
-        area::clear(work);
         return Planned::Impossible;
     }
-    walk::walk(t, units, &held, costs, values, work, n, places, sums);
     area::clear_u16(places, n);
     area::clear_u32(sums, n);
-    area::clear(work);
     Planned::Steps(n)
 }

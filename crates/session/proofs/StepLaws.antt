@@ -1,23 +1,23 @@
 -- A step read from the areas is the plan's. Assumes nothing.
-use mathlib.Core.Path.{_≡_, sym, ap, _∙_}
-use mathlib.Core.Bool.{Bool, true, false, not, _&&_}
+use mathlib.Core.Path.{_≡_, sym}
+use mathlib.Core.Bool.{true, false}
 use mathlib.Core.List.{List}
-use Prim.Native.Nat.{ℕ, suc, _+_, _-_, _*_, _≤_, _<_}
+use Prim.Native.Nat.{ℕ, suc, _+_, _*_, _≤_, _<_}
 use native.Mathlib.Nat.{le-div-iff-mul-le}
 use native.Mathlib.Numerals.{add-one}
 use native.Mathlib.Omega.{arith}
 use borrow.Author.Tests.{eq-eqb, ne-eqb}
-use lib.Dec.{eqb}
 use lib.ListN.{length, getD}
 use Rattle.area.specs.Entries.{num, entries}
 use Rattle.area.proofs.Laws.{entries-length, entries-at}
 use Rattle.exchange.specs.Deal.{start, after}
 use Rattle.exchange.specs.PlanIn.{planIn}
-use Rattle.session.specs.Session.{moves, awaited, done, atStep}
-use Rattle.session.specs.Code.{Open, StandsAt, openStep}
+use Rattle.session.specs.Session.{entryOf, moves, marked, awaited, done, atStep}
+use Rattle.session.specs.Code.{Open, StandsAt, entriesOf, entryBefore, outstanding}
 use Rattle.session.specs.declared.Session.{Session}
-use Rattle.session.specs.declared.step.Step.{Step}
-use Rattle.session.proofs.PlanLaws.{after-none, held-after}
+use Rattle.session.specs.declared.Side.{Side}
+use Rattle.session.specs.declared.Side.the-variants.{Delivery, Payment}
+use Rattle.session.proofs.PlanLaws.{held-after, held-before}
 
 -- ---- the bytes of an entry
 
@@ -36,24 +36,8 @@ module _ (count : ℕ) (places sums : List ℕ) (k : ℕ) (o : Open count places
     next-state : after start (planIn count places sums) (suc k) ≡ record { place = a; paid = b }
     next-state = rw (e, f) (held-after count places sums (o .held) k (o .before-end))
 
-    module _ (s : Session) (same : s .passed ≡ k) {x y : Bool} where
-      step-from : {p q : ℕ} → after start (planIn count places sums) k ≡ record { place = p; paid = q }
-          → x ≡ (not (eqb a p) && not (s .delivered)) → y ≡ (not (eqb b q) && not (s .paid))
-          → record { place = a; sum = b; delivery = x; payment = y } ≡ openStep (planIn count places sums) s
-      unfolding openStep awaited moves
-      step-from g u v = rw (same, next-state, g, u, v)
-
-      pub first-step : k ≡ 0 → x ≡ (not (eqb a 0) && not (s .delivered)) → y ≡ (not (eqb b 0) && not (s .paid))
-          → record { place = a; sum = b; delivery = x; payment = y } ≡ openStep (planIn count places sums) s
-      first-step h u v = step-from (rw (h, after-none start (planIn count places sums))) u v
-
-      pub later-step : (k ≡ 0 → ⊥) → {c d : ℕ} → c ≡ getD (entries 2 places) (k - 1) 0 → d ≡ getD (entries 4 sums) (k - 1) 0
-          → x ≡ (not (eqb a c) && not (s .delivered)) → y ≡ (not (eqb b d) && not (s .paid))
-          → record { place = a; sum = b; delivery = x; payment = y } ≡ openStep (planIn count places sums) s
-      later-step h i j u v =
-          let l = o .before-end in
-          let m : suc (k - 1) ≡ k = omega arith in
-          step-from (ap (after start (planIn count places sums)) (sym m) ∙ rw (i, j) (held-after count places sums (o .held) (k - 1) (omega arith))) u v
+    pub step-stands : StandsAt count places sums (k + 1) a b
+    step-stands = record { held = o .held; state-is = rw (add-one k, next-state) }
 
     -- a step without marks
     module _ {p q : ℕ} (g : StandsAt count places sums k p q) where
@@ -73,8 +57,20 @@ module _ (count : ℕ) (places sums : List ℕ) (k : ℕ) (o : Open count places
         pub still-stands : StandsAt count places sums (k + 1) p q
         still-stands = record { held = o .held; state-is = rw (add-one k, next-state, h, i) }
 
--- after the open step the plan stands at its entries
-pub step-stands : (count : ℕ) (places sums : List ℕ) (s : Session) (t : Step) → Open count places sums (s .passed)
-    → t ≡ openStep (planIn count places sums) s → StandsAt count places sums (s .passed + 1) (t .place) (t .sum)
-unfolding openStep
-step-stands count places sums s t o e = record { held = o .held; state-is = rw (add-one (s .passed), e) }
+-- ---- the open step of a session
+
+module _ (count : ℕ) (places sums : List ℕ) (s : Session) (o : Open count places sums (s .passed)) where
+  pub side-entry : (side : Side)
+      → getD (entriesOf side places sums) (s .passed) 0 ≡ entryOf side (after start (planIn count places sums) (suc (s .passed)))
+  side-entry Delivery = rw (held-after count places sums (o .held) (s .passed) (o .before-end))
+  side-entry Payment = rw (held-after count places sums (o .held) (s .passed) (o .before-end))
+
+  side-before : (side : Side)
+      → entryBefore (entriesOf side places sums) (s .passed) ≡ entryOf side (after start (planIn count places sums) (s .passed))
+  side-before Delivery = rw (held-before count places sums (o .held) (s .passed) (o .before-end))
+  side-before Payment = rw (held-before count places sums (o .held) (s .passed) (o .before-end))
+
+  pub side-awaited : (side : Side) {a : ℕ} → a ≡ getD (entriesOf side places sums) (s .passed) 0
+      → outstanding (entriesOf side places sums) (s .passed) a (marked s side) ≡ awaited (planIn count places sums) s side
+  unfolding outstanding awaited moves
+  side-awaited side e = rw (e, side-entry side, side-before side)

@@ -1,15 +1,13 @@
 -- What the private functions of this crate ask and give.
 use mathlib.Core.Path.{_≡_}
-use mathlib.Core.Bool.{Bool}
+use mathlib.Core.Bool.{Bool, not, _&&_}
 use mathlib.Core.List.{List}
-use Prim.Native.Nat.{ℕ, suc, _≤_, _<_}
-use lib.ListN.{length}
+use Prim.Native.Nat.{ℕ, zero, suc, _≤_, _<_}
+use lib.Dec.{eqb}
+use lib.ListN.{length, getD}
 use Rattle.area.specs.Entries.{entries}
-use Rattle.exchange.specs.Deal.{State, start, after}
+use Rattle.exchange.specs.Deal.{start, after}
 use Rattle.exchange.specs.PlanIn.{planIn}
-use Rattle.session.specs.Session.{awaited}
-use Rattle.session.specs.declared.Session.{Session}
-use Rattle.session.specs.declared.step.Step.{Step}
 use Rattle.session.specs.declared.Side.{Side}
 use Rattle.session.specs.declared.Side.the-variants.{Delivery, Payment}
 
@@ -28,26 +26,16 @@ pub record StandsAt (count : ℕ) (places sums : List ℕ) (k place sum : ℕ) :
   pub held : Held count places sums
   pub state-is : after start (planIn count places sums) k ≡ record { place = place; paid = sum }
 
--- the entry of a side
-abbrev pub entryIn : Step → Side → ℕ
-entryIn t Delivery = t .place
-entryIn t Payment = t .sum
+-- the entries of a side
+abbrev pub entriesOf : Side → List ℕ → List ℕ → List ℕ
+entriesOf Delivery places sums = entries 2 places
+entriesOf Payment places sums = entries 4 sums
 
--- whether a side is still to be reported
-abbrev pub awaitedIn : Step → Side → Bool
-awaitedIn t Delivery = t .delivery
-awaitedIn t Payment = t .payment
+-- the entry of the step before the one after k steps: 0 at the start
+abbrev pub entryBefore : List ℕ → ℕ → ℕ
+entryBefore es zero = 0
+entryBefore es (suc k) = getD es k 0
 
--- the open step: its entries, and which sides are still to be reported
-unfoldable pub openStep : List State → Session → Step
-openStep xs s =
-    record {
-      place = after start xs (suc (s .passed)) .place;
-      sum = after start xs (suc (s .passed)) .paid;
-      delivery = awaited xs s Delivery;
-      payment = awaited xs s Payment;
-    }
-
--- what holds of every plan and session that have this open step
-pub record OnSessions (t : Step) (P : List State → Session → Type 0) : Type 0 where
-  pub on : (xs : List State) (s : Session) → t ≡ openStep xs s → P xs s
+-- whether a side with this entry after k steps is still to be reported
+unfoldable pub outstanding : List ℕ → ℕ → ℕ → Bool → Bool
+outstanding es k entry marked = not (eqb entry (entryBefore es k)) && not marked

@@ -3,10 +3,11 @@ ghost use mathlib.Core.Path.{_≡_};
 ghost use Prim.Native.Nat.{_-_};
 ghost use Rattle.exchange.specs.PlanIn.{planIn};
 ghost use Rattle.planning.specs.Check.{holdsCount, aheadOfCheck};
-ghost use Rattle.session.specs.Session.{mark, finishedBy, atStep, settle, reportIn, Reports};
+ghost use Rattle.session.specs.Session.{finishedBy, atStep, settle, reportIn, Reports};
 ghost use Rattle.planning.specs.Answer.{checkedOf};
 ghost use Rattle.session.specs.Opening.{Opens};
-ghost use Rattle.session.specs.Code.{StandsAt};
+ghost use Rattle.session.specs.Code.{Open, StandsAt};
+ghost use Rattle.session.specs.declared.Side.{Side};
 
 mod entries;
 mod step;
@@ -48,14 +49,16 @@ pub struct Opened {
     pub session: Session,
 }
 
-// Whether both areas have as many entries as the count says.
+// Whether both areas have as many entries as the count says: the one with fewer decides.
 pub fn holds(count: usize, places: &[u8], sums: &[u8]) -> bool
     ensures { λ r. ⌜ r ≡ holdsCount count (now (places .entry)) (now (sums .entry)) ⌝ }
 {
-    if area::count_u16(places) < count {
-        return false;
+    let in_places = area::count_u16(places);
+    let in_sums = area::count_u32(sums);
+    if in_places < in_sums {
+        return count <= in_places;
     }
-    count <= area::count_u32(sums)
+    count <= in_sums
 }
 
 // A reply beside a session.
@@ -95,22 +98,6 @@ fn pass_over(count: usize, places: &[u8], sums: &[u8], k: usize, place: u32, sum
 }
 
 impl Session {
-    // The session with the side marked.
-    fn with_mark(mut self, side: Side) -> Session
-        ensures { λ r. ⌜ r ≡ mark self side ⌝ }
-    {
-        match side {
-            Side::Delivery => {
-                self.delivered = true;
-                self
-            }
-            Side::Payment => {
-                self.paid = true;
-                self
-            }
-        }
-    }
-
     // Whether every step of a plan with this count is passed.
     pub fn finished(self, count: usize) -> bool
         ensures { λ r. ⌜ r ≡ finishedBy count self ⌝ }
@@ -135,16 +122,53 @@ impl Session {
         if self.finished(count) {
             return answer(Reply::Finished, self);
         }
-        let passed = self.passed;
-        let step = step::open_step(count, places, sums, self);
-        if !step.takes(side, number) {
+        match side {
+            Side::Delivery => self.deliver(count, places, sums, number),
+            Side::Payment => self.pay(count, places, sums, number),
+        }
+    }
+
+    // Reports a place delivered where a step is open. The other side's entries are read only if the report fits.
+    fn deliver(mut self, count: usize, places: &[u8], sums: &[u8], number: u32) -> Reported
+        requires { ⌜ Open count (now places) (now sums) (self .passed) ⌝ }
+        ensures { λ r. ⌜ Reports (reportIn count (now (places .entry)) (now (sums .entry)) self Side.Delivery number) self r ⌝ }
+    {
+        let k = self.passed;
+        let place = entries::place_at(places, k);
+        if place != number {
             return answer(Reply::Unfit, self);
         }
-        if !step.ends_by(side) {
-            self = self.with_mark(side);
+        if !step::delivery_outstanding(places, k, place, self.delivered) {
+            return answer(Reply::Unfit, self);
+        }
+        let sum = entries::sum_at(sums, k);
+        if step::payment_outstanding(sums, k, sum, self.paid) {
+            self.delivered = true;
             return answer(Reply::Taken, self);
         }
-        let next = pass_over(count, places, sums, passed + 1, step.place, step.sum);
+        let next = pass_over(count, places, sums, k + 1, place, sum);
+        answer(Reply::Taken, next)
+    }
+
+    // Reports a total paid where a step is open, as `deliver` does a place.
+    fn pay(mut self, count: usize, places: &[u8], sums: &[u8], number: u32) -> Reported
+        requires { ⌜ Open count (now places) (now sums) (self .passed) ⌝ }
+        ensures { λ r. ⌜ Reports (reportIn count (now (places .entry)) (now (sums .entry)) self Side.Payment number) self r ⌝ }
+    {
+        let k = self.passed;
+        let sum = entries::sum_at(sums, k);
+        if sum != number {
+            return answer(Reply::Unfit, self);
+        }
+        if !step::payment_outstanding(sums, k, sum, self.paid) {
+            return answer(Reply::Unfit, self);
+        }
+        let place = entries::place_at(places, k);
+        if step::delivery_outstanding(places, k, place, self.delivered) {
+            self.paid = true;
+            return answer(Reply::Taken, self);
+        }
+        let next = pass_over(count, places, sums, k + 1, place, sum);
         answer(Reply::Taken, next)
     }
 }

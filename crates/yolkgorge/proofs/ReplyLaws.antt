@@ -141,22 +141,22 @@ module _ (s : List ℕ) (count : ℕ) (places sums : List ℕ) (side n r : ℕ) 
     unfolding reportFrom
     from-side = rw (le-leb 10 (length s) h)
 
-    pub from-named : {u : List ℕ} → side ≤ 1 → {b : Side} → b ≡ sideOf side → Leaves (reportIn count places sums (sessionIn s) b n) r s u
+    pub from-named : {u : List ℕ} → side < 2 → {b : Side} → b ≡ sideOf side → Leaves (reportIn count places sums (sessionIn s) b n) r s u
         → Leaves (reportFrom s count places sums side n) r s u
     from-named {u} d e l = subst (λ (said : Res Session). Leaves said r s u) (ap (λ (z : Side). reportIn count places sums (sessionIn s) z n) e ∙ go side d ∙ from-side) l
       where
-        go : (k : ℕ) → k ≤ 1 → reportIn count places sums (sessionIn s) (sideOf k) n ≡ reportBy count places sums (sessionIn s) k n
+        go : (k : ℕ) → k < 2 → reportIn count places sums (sessionIn s) (sideOf k) n ≡ reportBy count places sums (sessionIn s) k n
         go zero h = refl
         go (suc zero) h = refl
         go (suc (suc k)) h = absurd (omega arith)
 
-    pub from-nowhere : 1 < side → r ≡ codeOf (reportNowhere count places sums (sessionIn s))
+    pub from-nowhere : 2 ≤ side → r ≡ codeOf (reportNowhere count places sums (sessionIn s))
         → Leaves (reportFrom s count places sums side n) r s s
     from-nowhere d f =
         subst (λ (said : Res Session). Leaves said r s s) (go side d ∙ from-side)
         (record { number-is = f; area-is = nowhere-leaves count places sums (sessionIn s) s })
       where
-        go : (k : ℕ) → 1 < k → reportNowhere count places sums (sessionIn s) ≡ reportBy count places sums (sessionIn s) k n
+        go : (k : ℕ) → 2 ≤ k → reportNowhere count places sums (sessionIn s) ≡ reportBy count places sums (sessionIn s) k n
         go zero h = absurd (omega arith)
         go (suc zero) h = absurd (omega arith)
         go (suc (suc k)) h = refl

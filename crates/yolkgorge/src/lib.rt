@@ -122,11 +122,11 @@ pub extern "C" fn yolkgorge_report(
     if state.len() < 10 {
         return 8;
     }
-    if side > 1 {
-        return resting::report_nowhere(state, count, places, sums);
+    if side < 2 {
+        let named = numbers::side_of(side);
+        return resting::report_side(state, count, places, sums, named, number);
     }
-    let named = numbers::side_of(side);
-    resting::report_side(state, count, places, sums, named, number)
+    resting::report_nowhere(state, count, places, sums)
 }
 
 // Whether a session is finished by a plan with this count: 1 or 0, and 8 where the area is too short for a session.

@@ -103,6 +103,38 @@ module _ (w : Work) (mark : ℕ) where
     pub need-never-rises : (j k a : ℕ) → j ≤ k → need w mark k a ≤ need w mark j a
     need-never-rises j k a = le-ind (λ (m : ℕ). need w mark m a ≤ need w mark j a) (le-refl _) (λ m _ h. le-trans (need-falls m a) h) k
 
+    -- a row from which the end is reached needs at least its floor
+    floor-need : (j a : ℕ) → a ≤ w .last → need w mark j a < mark → w .floor a ≤ need w mark j a
+    floor-need zero a i h = go (ℕ-discrete a (w .last))
+      where
+        go : Dec (a ≡ w .last) → w .floor a ≤ need w mark 0 a
+        go (yes e) = rw e (omega (arith, need-last, law .floor-last))
+        go (no n) = absurd (omega (arith, need-other a n))
+    floor-need (suc j) a i h =
+        let x = attained j a h in
+        omega (arith, law .floor-rises a (x .row) i (x .in-deal) (x .follow .delivers), x .covered)
+
+    module _ (high : w .price < mark) where
+      -- and what it needs may be paid there
+      need-paid : (j a : ℕ) → a ≤ w .last → need w mark j a < mark → need w mark j a ≤ w .cap a
+      need-paid zero a i h = go (ℕ-discrete a (w .last))
+        where
+          go : Dec (a ≡ w .last) → need w mark 0 a ≤ w .cap a
+          go (yes e) = rw e (omega (arith, need-last, law .cap-last))
+          go (no n) = absurd (omega (arith, need-other a n))
+      need-paid (suc j) a i h =
+          let x = attained j a h in
+          let f : w .floor (x .row) ≤ need w mark j (x .row) =
+          floor-need j (x .row) (x .in-deal) (omega (arith, x .follow .affords, law .cap-price a)) in
+          omega (arith, need-le j a (x .row) (x .in-deal) (x .follow .delivers) (x .follow .affords), x .follow .affords)
+
+      -- so with one step more it needs its floor: that step stays and pays
+      pub need-own : (j a : ℕ) → a ≤ w .last → need w mark j a < mark → need w mark (suc j) a ≡ w .floor a
+      need-own j a i h =
+          let down : need w mark (suc j) a ≤ w .floor a = need-le j a a i (law .holds-self a) (need-paid j a i h) in
+          let up : w .floor a ≤ need w mark (suc j) a = floor-need (suc j) a i (omega (arith, need-falls j a)) in
+          omega arith
+
     -- the mark is above every sum that may be paid, so a need that is met is not the mark
     module _ (high : w .price < mark) (s : State) (h : s .paid ≤ w .cap (s .place)) where
       pub need-end : need w mark 0 (s .place) ≤ s .paid → s ≡ goal w

@@ -2,10 +2,11 @@
 use mathlib.Core.Path.{_≡_}
 use mathlib.Core.Bool.{Bool}
 use mathlib.Core.List.{List}
-use Prim.Native.Nat.{ℕ, _+_, _≤_}
+use Prim.Native.Nat.{ℕ, _+_, _-_, _*_, _≤_}
 use lib.ListN.{length}
 use Rattle.area.specs.Entries.{entries}
 use Rattle.grid.specs.Rows.{rowsOf}
+use Rattle.grid.specs.Map.{standing}
 use Rattle.grid.specs.Cells.{Fills}
 use Rattle.contract.specs.Res.{Res, refused, ok}
 use Rattle.contract.specs.Contract.{numberOf}
@@ -44,21 +45,22 @@ abbrev pub viewGrid : GridReply → Res table.Grid
 viewGrid (GridReply.Refused e) = refused (numberOf e)
 viewGrid (GridReply.Got g) = ok (gridOf g)
 
--- a row map and its cells lie one after the other within the record
-pub record Within (s : List ℕ) (g : table.Grid) : Type 0 where
+-- a map of the rows and its cells, as many as rows stand, lie one after the other within the record
+pub record Within (s : List ℕ) (rows : ℕ) (g : table.Grid) : Type 0 where
   pub map-end : g .map ≤ g .cells
   pub cells-end : g .cells ≤ g .end
   pub within : g .end ≤ length s
+  pub counted : g .end - g .cells ≡ 4 * standing (part (g .map) (g .cells) s) rows
 
 -- a grid that was found lies within the record
-abbrev pub WithinIn : List ℕ → Res table.Grid → Type 0
-WithinIn s (refused n) = Unit {0}
-WithinIn s (ok g) = Within s g
+abbrev pub WithinIn : List ℕ → ℕ → Res table.Grid → Type 0
+WithinIn s rows (refused n) = Unit {0}
+WithinIn s rows (ok g) = Within s rows g
 
 -- what reading a grid gives
 pub record Grids (s : List ℕ) (rows m : ℕ) (r : GridReply) : Type 0 where
   pub meets : viewGrid r ≡ gridAt s rows m
-  pub within : WithinIn s (viewGrid r)
+  pub within : WithinIn s rows (viewGrid r)
 
 -- the layout that the code's struct holds
 abbrev pub layoutOf : Layout → table.Layout
@@ -81,8 +83,8 @@ pub record Laid (s : List ℕ) (t : table.Layout) : Type 0 where
   pub items : Items s (t .units) (t .unitsEnd)
   pub rows-are : t .rows ≡ rowsOf (unitsOf s t)
   pub rows-le : t .rows ≤ 128
-  pub costs-in : Within s (t .costs)
-  pub values-in : Within s (t .values)
+  pub costs-in : Within s (t .rows) (t .costs)
+  pub values-in : Within s (t .rows) (t .values)
 
 -- a layout that was found lies within the record
 abbrev pub LaidIn : List ℕ → Res table.Layout → Type 0

@@ -1,61 +1,61 @@
-use native.Mathlib.Omega.{arith}
-use denote.Ref.{now}
-use Rattle.search.proofs.SuitLaws.{start-under, start-uncovered, start-safe}
 use borrow.Author.Needs.{needs}
+use mathlib.Core.Path.{_≡_}
+use mir.Syntax.{w64}
+use mir.Val.{toZ, ofZ}
+use mir.Facts.{toZ-ofZ}
 use Rattle.search.proofs.starts.Statement.{statement}
 use Rattle.search.proofs.starts.Tie as tie
 
 sub-last : tie.Need-sub-last
 sub-last c = search needs
 
-wide32-requires : tie.Need-wide32-requires
-wide32-requires c κs = search needs
+mul-lower : tie.Need-mul-lower
+mul-lower c = search needs
 
-cell-requires : tie.Need-cell-requires
-cell-requires c κs = search needs
+shared-slice-read-lower : tie.Need-shared-slice-read-lower
+shared-slice-read-lower c = search needs
 
-add-high : tie.Need-add-high
-add-high c = search needs
+shared-slice-read-lower-2 : tie.Need-shared-slice-read-lower-2
+shared-slice-read-lower-2 c = search needs
 
-wide32-requires-2 : tie.Need-wide32-requires-2
-wide32-requires-2 c κs = search needs
+lower-requires : tie.Need-lower-requires
+lower-requires c κs = search needs
 
-add-high-2 : tie.Need-add-high-2
-add-high-2 c = search needs
+mul-upper : tie.Need-mul-upper
+mul-upper c = search needs
 
-cell-requires-2 : tie.Need-cell-requires-2
-cell-requires-2 c κs = search needs
+shared-slice-read-upper : tie.Need-shared-slice-read-upper
+shared-slice-read-upper c = search needs
+
+shared-slice-read-upper-2 : tie.Need-shared-slice-read-upper-2
+shared-slice-read-upper-2 c = search needs
+
+upper-requires : tie.Need-upper-requires
+upper-requires c κs = search needs
+
+safe-requires : tie.Need-safe-requires
+safe-requires c κs = search needs
 
 returns : tie.Need-returns
 returns c =
-    let x = c .before .before .before .before .before .before .before .before .args in
-    start-under (x .t) (now (x .costs)) (now (x .values)) (omega (arith, c .before .before .before .before .wide32 .ensures .0, c .before .before .wide322 .ensures .0, c .before .before .before .cell .ensures .0, c .before .cell2 .ensures .0, c .if1 .taken))
-
-floor-requires : tie.Need-floor-requires
-floor-requires c κs = search needs
-
-returns-2 : tie.Need-returns-2
-returns-2 c =
-    let x = c .before .before .before .before .before .before .before .before .before .before .args in
-    start-uncovered (x .t) (now (x .costs)) (now (x .values)) (rw (← c .before .floor .ensures) (c .if2 .taken))
-
-returns-3 : tie.Need-returns-3
-returns-3 c =
-    let x = c .before .before .before .before .before .before .before .before .before .before .args in
-    start-safe (x .t) (now (x .costs)) (now (x .values)) (omega (arith, c .before .before .before .before .before .before .wide32 .ensures .0, c .before .before .before .before .wide322 .ensures .0, c .before .before .before .before .before .cell .ensures .0, c .before .before .before .cell2 .ensures .0, c .before .before .if1 .left)) (rw (← c .before .floor .ensures) (c .if2 .left))
+    let lo = c .before .before .before .before .lower .result in
+    let hi = c .before .upper .result in
+    let k : toZ w64 (ofZ w64 lo) ≡ lo = toZ-ofZ (search needs) in
+    let m : toZ w64 (ofZ w64 hi) ≡ hi = toZ-ofZ (search needs) in
+    rw (← c .before .before .before .before .lower .ensures, ← c .before .upper .ensures) (rw (k, m) at (c .safe .ensures))
 
 pub starts-spec : {M : Type 1} → statement M
 starts-spec =
     tie.close
     (tie.spec
     sub-last
-    wide32-requires
-    cell-requires
-    add-high
-    wide32-requires-2
-    add-high-2
-    cell-requires-2
-    returns
-    floor-requires
-    returns-2
-    returns-3)
+    mul-lower
+    shared-slice-read-lower
+    shared-slice-read-lower-2
+    lower-requires
+    mul-upper
+    shared-slice-read-upper
+    shared-slice-read-upper-2
+    upper-requires
+    safe-requires
+    returns)

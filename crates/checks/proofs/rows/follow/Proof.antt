@@ -1,7 +1,7 @@
 -- `checks::rows::follow` meets its contract, by that of `follow_steps`. Assumes nothing.
-use native.Mathlib.Omega.{arith}
-use Rattle.checks.proofs.RowLaws.{some-rows, few-costs, last-value, ready}
 use borrow.Author.Needs.{needs}
+use native.Mathlib.Omega.{arith}
+use Rattle.checks.proofs.RowLaws.{some-rows, last-value, small, ready}
 use Rattle.checks.proofs.rows.follow.Statement.{statement}
 use Rattle.checks.proofs.rows.follow.Tie as tie
 
@@ -20,11 +20,8 @@ mul-t14 c = search needs
 shared-slice-read-t16 : tie.Need-shared-slice-read-t16
 shared-slice-read-t16 c = last-value _ _ _ _ _ _ _ (c .before .before .before .before .before .before .before .pre)
 
-add-all-units : tie.Need-add-all-units
-add-all-units c = search needs
-
 all-units-requires : tie.Need-all-units-requires
-all-units-requires c κs = omega (arith, some-rows _ _ _ _ _ _ _ (c .before .before .before .before .before .before .before .pre), few-costs _ _ _ _ _ _ _ (c .before .before .before .before .before .before .before .pre))
+all-units-requires c κs = small _ _ _ _ _ _ _ (c .before .before .before .before .before .before .before .pre)
 
 follow-steps-requires : tie.Need-follow-steps-requires
 follow-steps-requires c κs = (c .before .before .before .before .before .before .before .before .before .pre, ready _ _ _ _ _ _ _ (c .before .before .before .before .before .before .before .before .before .pre) (c .before .all-units .ensures))
@@ -41,7 +38,6 @@ follow-spec =
     shared-slice-read-t13
     mul-t14
     shared-slice-read-t16
-    add-all-units
     all-units-requires
     follow-steps-requires
     returns)

@@ -1,8 +1,8 @@
 -- `checks::rows::is_step` meets its contract: four comparisons, and whether the second row holds the first. Assumes nothing.
+use borrow.Author.Needs.{needs}
 use native.Mathlib.Omega.{arith}
 use Rattle.planning.proofs.TablePlan.{costs-rows}
 use Rattle.checks.proofs.RowLaws.{fails, held-decides}
-use borrow.Author.Needs.{needs}
 use Rattle.checks.proofs.rows.is_step.Statement.{statement}
 use Rattle.checks.proofs.rows.is_step.Tie as tie
 
@@ -24,13 +24,23 @@ is-step-requires c κs = search needs
 returns : tie.Need-returns
 returns c = fails (c .before .before .before .before .before .before .before .pre .0) (c .before .before .before .before .before .before .before .pre .1) (c .before .before .before .before .before .before .before .pre .2) (c .before .before .before .before .before .before .before .pre .3) _ _ (c .before .is-step .ensures) (c .if1 .taken)
 
-row-holds-requires : tie.Need-row-holds-requires
-row-holds-requires c κs =
-    let rows = costs-rows _ _ _ _ (c .before .before .before .before .before .before .before .pre .0) in
-    (c .before .before .before .before .before .before .before .pre .1 .units-held, omega (arith, c .before .before .before .before .before .before .before .pre .2), omega (arith, c .before .before .before .before .before .before .before .pre .3))
+mul-word-holds : tie.Need-mul-word-holds
+mul-word-holds c = search needs
+
+element-copy-out-word-holds : tie.Need-element-copy-out-word-holds
+element-copy-out-word-holds c = omega (arith, c .before .before .before .before .before .before .before .pre .2, costs-rows _ _ _ _ (c .before .before .before .before .before .before .before .pre .0), c .before .before .before .before .before .before .before .pre .1 .units-held .few)
+
+mul-word-holds-2 : tie.Need-mul-word-holds-2
+mul-word-holds-2 c = search needs
+
+element-copy-out-word-holds-2 : tie.Need-element-copy-out-word-holds-2
+element-copy-out-word-holds-2 c = omega (arith, c .before .before .before .before .before .before .before .before .pre .3, costs-rows _ _ _ _ (c .before .before .before .before .before .before .before .before .pre .0), c .before .before .before .before .before .before .before .before .pre .1 .units-held .few)
+
+word-holds-requires : tie.Need-word-holds-requires
+word-holds-requires c κs = search needs
 
 returns-2 : tie.Need-returns-2
-returns-2 c = held-decides (c .before .before .before .before .before .before .before .before .pre .0) (c .before .before .before .before .before .before .before .before .pre .1) (c .before .before .before .before .before .before .before .before .pre .2) (c .before .before .before .before .before .before .before .before .pre .3) _ _ (c .before .before .is-step .ensures) (c .before .if1 .left) (c .row-holds .ensures)
+returns-2 c = held-decides (c .before .before .before .before .before .before .before .before .before .before .pre .0) (c .before .before .before .before .before .before .before .before .before .before .pre .1) (c .before .before .before .before .before .before .before .before .before .before .pre .2) (c .before .before .before .before .before .before .before .before .before .before .pre .3) _ _ (c .before .before .before .before .is-step .ensures) (c .before .before .before .if1 .left) (c .word-holds .ensures)
 
 pub is-step-spec : {M : Type 1} → statement M
 is-step-spec =
@@ -42,5 +52,9 @@ is-step-spec =
     shared-slice-read-is-step-2
     is-step-requires
     returns
-    row-holds-requires
+    mul-word-holds
+    element-copy-out-word-holds
+    mul-word-holds-2
+    element-copy-out-word-holds-2
+    word-holds-requires
     returns-2)

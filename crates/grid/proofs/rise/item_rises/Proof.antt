@@ -1,65 +1,40 @@
-use mathlib.Core.Path.{_≡_, refl, sym, _∙_}
-use mathlib.Core.Logic.{⊎-elim}
-use Prim.Native.Nat.{_-_, _%_, _≤_}
-use native.Mathlib.Nat.{mod-lt, mod-le, mod-add-mod, zero-mod}
+use mathlib.Core.Path.{_∙_}
+use Prim.Native.Nat.{_-_}
 use native.Mathlib.Omega.{arith}
-use borrow.Author.Tests.{le-leb, lt-leb}
-use denote.Ref.{now}
-use lib.ListN.{length, getD}
-use Rattle.grid.specs.Rise.{risingIn}
-use Rattle.grid.proofs.RiseLaws.{rise-turn, rise-skip}
+use lib.ListN.{length}
+use Rattle.grid.proofs.RiseLaws.{Passed, passed-start, round-fits, passed-turn, passed-done}
 use Rattle.grid.proofs.rise.item_rises.Statement.{statement}
 use Rattle.grid.proofs.rise.item_rises.Tie as tie
 
 abbrev Inv-loop : tie.InvT-loop
-Inv-loop cells k round rises₀ r₀ i₀ rises r i = (r ≤ length cells) × (rises ≡ risingIn k round cells r) × (i ≡ r % round)
+Inv-loop cells k round rises₀ start₀ rises start = Passed cells k round start rises
 
 abbrev μ-loop : tie.MeasureT-loop
-μ-loop cells k round rises₀ r₀ i₀ rises r i = length cells - r
+μ-loop cells k round rises₀ start₀ rises start = length cells - start
 
 loop-holds : tie.Need-loop-holds Inv-loop μ-loop
-unfolding risingIn
-loop-holds c = (omega arith, refl, sym (zero-mod _))
+loop-holds c = passed-start (c .before .pre)
 
-sub-still-rising : tie.Need-sub-still-rising Inv-loop μ-loop
-sub-still-rising c = omega (arith, mod-le (c .before .before .loop .r) (c .before .before .before .before .args .round), c .before .before .loop .inv .2)
+add-end : tie.Need-add-end Inv-loop μ-loop
+add-end c = omega (arith, round-fits (c .before .loop .rises) (c .before .before .before .pre) (c .before .loop .inv) (c .loop-test .taken))
 
-mul-still-rising : tie.Need-mul-still-rising Inv-loop μ-loop
-mul-still-rising c = omega (arith, mod-le (c .before .before .loop .r) (c .before .before .before .before .args .round), c .before .before .loop .inv .2)
+add-run-rises : tie.Need-add-run-rises Inv-loop μ-loop
+add-run-rises c = omega (arith, round-fits (c .before .loop .rises) (c .before .before .before .pre) (c .before .loop .inv) (c .loop-test .taken), c .before .before .before .pre .begin)
 
-shared-slice-read-still-rising : tie.Need-shared-slice-read-still-rising Inv-loop μ-loop
-shared-slice-read-still-rising c = omega (arith, mod-le (c .before .before .before .loop .r) (c .before .before .before .before .before .args .round), c .before .before .before .loop .inv .2)
+run-rises-requires : tie.Need-run-rises-requires Inv-loop μ-loop
+run-rises-requires c κs = record { begin = omega arith; order = omega (arith, c .before .before .before .pre .begin); end = round-fits (c .before .loop .rises) (c .before .before .before .pre) (c .before .loop .inv) (c .loop-test .taken) }
 
-mul-still-rising-2 : tie.Need-mul-still-rising-2 Inv-loop μ-loop
-mul-still-rising-2 c = omega (arith, mod-le (c .before .before .before .loop .r) (c .before .before .before .before .before .args .round), c .before .before .before .loop .inv .2)
-
-shared-slice-read-still-rising-2 : tie.Need-shared-slice-read-still-rising-2 Inv-loop μ-loop
-shared-slice-read-still-rising-2 c = omega (arith, mod-le (c .before .before .before .before .loop .r) (c .before .before .before .before .before .before .args .round), c .before .before .before .before .loop .inv .2)
-
-still-rising-requires : tie.Need-still-rising-requires Inv-loop μ-loop
-still-rising-requires c κs = tt
-
-one-on-requires : tie.Need-one-on-requires Inv-loop μ-loop
-one-on-requires c κs = rw (c .before .before .loop .inv .2) (mod-lt (c .before .before .loop .r) (c .before .before .before .before .pre .1))
-
-add-r : tie.Need-add-r Inv-loop μ-loop
-add-r c = omega (arith, mod-le (c .before .before .before .loop .r) (c .before .before .before .before .before .args .round), c .before .before .before .loop .inv .2)
+both-requires : tie.Need-both-requires Inv-loop μ-loop
+both-requires c κs = tt
 
 loop-less : tie.Need-loop-less Inv-loop μ-loop
-loop-less c = omega (arith, mod-le (c .before .before .before .loop .r) (c .before .before .before .before .before .args .round), c .before .before .before .loop .inv .2)
+loop-less c = omega (arith, c .before .before .before .before .before .pre .some, c .before .before .before .before .before .pre .begin)
 
 loop-again : tie.Need-loop-again Inv-loop μ-loop
-loop-again c = (
-  omega arith,
-  rise-turn (c .before .before .before .before .before .args .k) (c .before .before .before .before .before .args .round) (c .before .before .before .loop .r) (now (c .before .before .before .before .before .args .cells)) (c .before .before .before .loop .rises) (c .before .before .before .loop .inv .1) (c .before .before .before .loop .inv .2)
-      (⊎-elim (λ w. w .4 ∙ w .3 .ensures ∙ rw (le-leb _ _ (w .0 .taken))) (λ w. w .1 ∙ rw (lt-leb _ _ (w .0 .left)) (rise-skip (c .before .before .before .loop .rises) (getD (now (c .before .before .before .before .before .args .cells)) (c .before .before .before .loop .r) 0))) (c .before .if1 .came)),
-  c .one-on .ensures ∙ rw (c .before .before .before .loop .inv .2, mod-add-mod),
-)
+loop-again c = passed-turn (c .before .before .before .loop .rises) (c .before .before .before .before .before .pre) (c .before .before .before .loop .inv) (c .before .before .loop-test .taken) (c .both .ensures ∙ rw (c .before .run-rises .ensures))
 
 returns : tie.Need-returns Inv-loop μ-loop
-returns c =
-    let e : c .before .loop .r ≡ length (now (c .before .before .before .args .cells)) = omega (arith, c .before .loop .inv .0) in
-    c .before .loop .inv .1 ∙ rw e
+returns c = passed-done (c .before .loop .inv) (c .loop-test .left)
 
 pub item-rises-spec : {M : Type 1} → statement M
 item-rises-spec =
@@ -68,14 +43,10 @@ item-rises-spec =
     Inv-loop
     μ-loop
     loop-holds
-    sub-still-rising
-    mul-still-rising
-    shared-slice-read-still-rising
-    mul-still-rising-2
-    shared-slice-read-still-rising-2
-    still-rising-requires
-    one-on-requires
-    add-r
+    add-end
+    add-run-rises
+    run-rises-requires
+    both-requires
     loop-less
     loop-again
     returns)

@@ -46,6 +46,9 @@ loop-again c =
     let e : bitCount (drop (a .i) map) ≡ ones (getD map (a .i) 0) + bitCount (drop (a .i + 1) map) = rw (add-one, drop-cons map (a .i) 0 (omega arith)) in
     (omega arith, (omega (arith, few c), omega arith))
 
+cast-result : tie.Need-cast-result Inv-loop μ-loop
+cast-result c = omega arith
+
 returns : tie.Need-returns Inv-loop μ-loop
 unfolding bitCount
 returns c =
@@ -68,4 +71,5 @@ ones-spec =
     add-i
     loop-less
     loop-again
+    cast-result
     returns)

@@ -6,6 +6,7 @@ use denote.Ref.{now}
 use lib.ListN.{length}
 use Rattle.grid.specs.Map.{mapSize, bitCount}
 use Rattle.contract.specs.Table.{gridAt, part}
+use Rattle.record.proofs.TableLaws.{map-counted}
 use borrow.Author.Needs.{needs}
 use Rattle.record.proofs.table.grid_at.Statement.{statement}
 use Rattle.record.proofs.table.grid_at.Tie as tie
@@ -103,9 +104,10 @@ returns-5 c =
     let e = c .before .before .before .before .ones .ensures .0 in
     let h : i + 4 * c .before .before .before .before .ones .result ≤ length s = omega arith in
     let room : i + 4 * bitCount (part (c .before .before .before .before .before .before .before .before .before .before .before .before .args .map) i s) ≤ length s = rw e at h in
+    let rows = map-counted s (c .before .before .before .before .before .before .before .before .before .before .before .before .args .map) (c .before .before .before .before .before .before .before .before .before .before .before .before .args .rows) (λ k. c .before .before .before .before .before .before .before .before .before .before .before .shared-slice-known .given k .fits) (omega arith) (sym (c .before .before .before .before .before .before .before .bits-from .ensures) ∙ c .before .before .before .before .before .before .if3 .left) in
     record {
       meets = rw e (simp (le-leb i (length s) (omega arith), eq-eqb _ _ (sym (c .before .before .before .before .before .before .before .bits-from .ensures) ∙ c .before .before .before .before .before .before .if3 .left), le-leb _ _ room, sym (rw e at (c .before .all-within .ensures)) ∙ c .if5 .taken));
-      within = record { map-end = omega arith; cells-end = omega arith; within = omega arith };
+      within = record { map-end = omega arith; cells-end = omega arith; within = omega arith; counted = rw (← rows, ← e) (omega arith) };
     }
 
 returns-6 : tie.Need-returns-6

@@ -9,7 +9,7 @@ use Rattle.record.specs.View.Head.{headOf}
 use Rattle.record.specs.View.Table.{gridOf, layoutOf}
 use Rattle.record.proofs.AnswerLaws.{refuses, accepts, sized-stop}
 use Rattle.record.proofs.TableLaws.{units-front, units-read}
-use Rattle.record.proofs.CellLaws.{CellsRead, cells-read, said-costs-fall, said-values-fall, said-cells, table-header}
+use Rattle.record.proofs.CellLaws.{CellsRead, cells-sized, cells-read, said-costs-fall, said-values-fall, said-cells, table-header}
 use borrow.Author.Needs.{needs}
 use Rattle.record.proofs.table.read_cells.Statement.{statement}
 use Rattle.record.proofs.table.read_cells.Tie as tie
@@ -27,7 +27,7 @@ slice-aggregate-fill-cells : tie.Need-slice-aggregate-fill-cells
 slice-aggregate-fill-cells c = units-front _ _ _ _ (c .before .before .before .units-of .ensures)
 
 fill-cells-requires : tie.Need-fill-cells-requires
-fill-cells-requires c κs = search needs
+fill-cells-requires c κs = (rw (c .before .before .before .before .before .before .before .before .before .before .before .pre .costs-long) (c .before .before .before .before .before .before .before .before .before .before .before .pre .laid .costs-in), cells-sized (layoutOf (c .before .before .before .before .before .before .before .before .before .before .before .args .t)) (c .before .before .before .before .before .before .before .before .before .before .before .pre .laid) (units-read (c .before .before .before .before .before .before .before .before .before .before .before .pre .laid .items) (c .before .before .before .before .units-of .ensures)) (c .before .before .before .before .before .before .before .before .before .before .before .pre .costs-long))
 
 -- what the costs, and then the values, were filled with
 costs-read : (c : tie.After-fill-cells) → CellsRead (now (c .before .before .before .before .before .before .before .before .before .before .before .before .args .s)) (layoutOf (c .before .before .before .before .before .before .before .before .before .before .before .before .args .t)) (gridOf (c .before .before .before .before .before .before .before .before .before .before .before .before .args .t .costs)) (c .fill-cells .result) (c .fill-cells .last .1 .1 .1 .0)
@@ -54,7 +54,7 @@ slice-aggregate-fill-cells-2 : tie.Need-slice-aggregate-fill-cells-2
 slice-aggregate-fill-cells-2 c = units-front _ _ _ _ (c .before .before .before .before .before .before .before .before .before .units-of .ensures)
 
 fill-cells-requires-2 : tie.Need-fill-cells-requires-2
-fill-cells-requires-2 c κs = search needs
+fill-cells-requires-2 c κs = (rw (c .before .before .before .before .before .before .before .before .before .before .before .before .before .before .before .before .before .pre .values-long) (c .before .before .before .before .before .before .before .before .before .before .before .before .before .before .before .before .before .pre .laid .values-in), cells-sized (layoutOf (c .before .before .before .before .before .before .before .before .before .before .before .before .before .before .before .before .before .args .t)) (c .before .before .before .before .before .before .before .before .before .before .before .before .before .before .before .before .before .pre .laid) (units-read (c .before .before .before .before .before .before .before .before .before .before .before .before .before .before .before .before .before .pre .laid .items) (c .before .before .before .before .before .before .before .before .before .before .units-of .ensures)) (c .before .before .before .before .before .before .before .before .before .before .before .before .before .before .before .before .before .pre .values-long))
 
 refuse-requires-2 : tie.Need-refuse-requires-2
 refuse-requires-2 c κs = search needs

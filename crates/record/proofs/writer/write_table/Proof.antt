@@ -3,18 +3,18 @@ use borrow.Author.Needs.{needs}
 use borrow.Author.Tests.{not-true, not-false}
 use lib.Seq.{length-take-le}
 use Rattle.contract.specs.declared.Refusal.the-variants.{Falling}
-use Rattle.record.proofs.WriteLaws.{refuses, costs-fall, values-fall, laid, map-room, map-front}
+use Rattle.record.proofs.WriteLaws.{refuses, costs-fall, values-fall, laid, table-sized, map-room, map-front}
 use Rattle.record.proofs.writer.write_table.Statement.{statement}
 use Rattle.record.proofs.writer.write_table.Tie as tie
 
 mark-requires : tie.Need-mark-requires
-mark-requires c κs = search needs
+mark-requires c κs = table-sized (c .before .before .before .before .pre) _ refl
 
 returns : tie.Need-returns
 returns c = refuses Falling (costs-fall (c .before .before .before .before .before .before .before .pre) _ (sym (c .before .before .mark .ensures .0) ∙ not-true _ (c .if1 .taken)))
 
 mark-requires-2 : tie.Need-mark-requires-2
-mark-requires-2 c κs = search needs
+mark-requires-2 c κs = table-sized (c .before .before .before .before .before .before .before .pre) _ (laid (c .before .before .before .before .before .before .before .pre) .same)
 
 returns-2 : tie.Need-returns-2
 returns-2 c = refuses Falling (values-fall (c .before .before .before .before .before .before .before .before .before .before .pre) _ (sym (c .before .before .before .before .before .mark .ensures .0) ∙ not-false _ (c .before .before .before .if1 .left)) (sym (c .before .before .mark2 .ensures .0) ∙ not-true _ (c .if2 .taken)))

@@ -1,31 +1,44 @@
-use mathlib.Core.Path.{_≡_, refl, subst, _∙_}
-use Prim.Native.Nat.{ℕ, _-_, _≤_}
-use native.Mathlib.Omega.{arith}
 use borrow.Author.Needs.{needs}
-use denote.Ref.{now}
-use lib.ListN.{length, length-set}
-use Rattle.search.specs.Layers.{floorOf, Floors}
-use Rattle.search.proofs.LimitLaws.{lists-more}
+use mathlib.Core.Path.{_≡_, subst}
+use Prim.Native.Nat.{_-_, _≤_}
+use native.Mathlib.Omega.{arith}
+use Rattle.search.specs.Layers.{floorAt, Lists}
+use Rattle.search.proofs.LimitLaws.{lists-none, lists-more}
 use Rattle.search.proofs.limits.all_floors.Statement.{statement}
 use Rattle.search.proofs.limits.all_floors.Tie as tie
 
 abbrev Inv-loop : tie.InvT-loop
-Inv-loop t values rows floors₀ b₀ floors b = (b ≤ rows) × (length floors ≡ 128) × Floors t values floors b
+Inv-loop values floors₀ rows price buyer top b₀ floors b = (b ≤ rows) × Lists (floorAt price top buyer values) floors b
 
 abbrev μ-loop : tie.MeasureT-loop
-μ-loop t values rows floors₀ b₀ floors b = rows - b
+μ-loop values floors₀ rows price buyer top b₀ floors b = rows - b
+
+sub-top : tie.Need-sub-top Inv-loop μ-loop
+sub-top c = search needs
+
+mul-top : tie.Need-mul-top Inv-loop μ-loop
+mul-top c = search needs
+
+shared-slice-read-top : tie.Need-shared-slice-read-top Inv-loop μ-loop
+shared-slice-read-top c = search needs
 
 loop-holds : tie.Need-loop-holds Inv-loop μ-loop
-loop-holds c = (omega arith, refl, record { entry = λ b h. absurd (omega arith) })
+loop-holds c = (omega arith, rw (c .before .before .pre .3) (lists-none _))
 
-floor-requires : tie.Need-floor-requires Inv-loop μ-loop
-floor-requires c κs = search needs
+mul-least-paid : tie.Need-mul-least-paid Inv-loop μ-loop
+mul-least-paid c = search needs
+
+shared-slice-read-least-paid : tie.Need-shared-slice-read-least-paid Inv-loop μ-loop
+shared-slice-read-least-paid c = search needs
+
+least-paid-requires : tie.Need-least-paid-requires Inv-loop μ-loop
+least-paid-requires c κs = search needs
 
 mul-floors : tie.Need-mul-floors Inv-loop μ-loop
 mul-floors c = search needs
 
-array-write-floors : tie.Need-array-write-floors Inv-loop μ-loop
-array-write-floors c = search needs
+element-write-floors : tie.Need-element-write-floors Inv-loop μ-loop
+element-write-floors c = omega (arith, c .before .before .before .loop .inv .1 .long, c .before .before .loop-test .taken, c .before .before .before .before .before .before .pre .1)
 
 add-b : tie.Need-add-b Inv-loop μ-loop
 add-b c = search needs
@@ -34,20 +47,12 @@ loop-less : tie.Need-loop-less Inv-loop μ-loop
 loop-less c = search needs
 
 loop-again : tie.Need-loop-again Inv-loop μ-loop
-loop-again c =
-    let x = c .before .before .before .before .args in
-    let l = c .before .before .loop in (
-      omega arith,
-      length-set (l .floors) (l .b) (c .floor .result) ∙ l .inv .1,
-      lists-more (floorOf (x .t) (now (x .values))) (l .floors) (l .b) (c .floor .result) (l .inv .2) (omega (arith, l .inv .1)) (c .floor .ensures),
-    )
+loop-again c = (omega arith, lists-more (c .before .before .before .loop .inv .1) (omega (arith, c .before .before .loop-test .taken, c .before .before .before .before .before .before .pre .1)) (c .least-paid .ensures))
 
 returns : tie.Need-returns Inv-loop μ-loop
 returns c =
-    let x = c .before .before .before .args in
-    let l = c .before .loop in
-    let e : l .b ≡ x .t .rows = omega arith in
-    subst (λ (z : ℕ). Floors (x .t) (now (x .values)) (l .floors) z) e (l .inv .2)
+    let e : c .before .loop .b ≡ c .before .before .before .before .args .t .rows = omega (arith, c .before .loop .inv .0) in
+    subst (Lists _ (c .before .loop .floors)) e (c .before .loop .inv .1)
 
 pub all-floors-spec : {M : Type 1} → statement M
 all-floors-spec =
@@ -55,10 +60,15 @@ all-floors-spec =
     (tie.spec
     Inv-loop
     μ-loop
+    sub-top
+    mul-top
+    shared-slice-read-top
     loop-holds
-    floor-requires
+    mul-least-paid
+    shared-slice-read-least-paid
+    least-paid-requires
     mul-floors
-    array-write-floors
+    element-write-floors
     add-b
     loop-less
     loop-again

@@ -1,39 +1,36 @@
 use borrow.Author.Needs.{needs}
 use native.Mathlib.Omega.{arith}
-use denote.Ref.{now}
-use Rattle.search.specs.Layers.{working}
-use Rattle.search.proofs.WalkLaws.{Going, going-start, going-room, going-on, going-done}
+use Rattle.search.specs.Layers.{rowsWork}
+use Rattle.search.proofs.WalkLaws.{Going, going-start, going-in, going-pays, going-on, going-done}
 use Rattle.search.proofs.walk.walk.Statement.{statement}
 use Rattle.search.proofs.walk.walk.Tie as tie
 
 abbrev Inv-loop : tie.InvT-loop
-Inv-loop t units held costs values work steps places₀ sums₀ left₀ k₀ a₀ paid₀ places sums left k a paid = Going (working t units costs values) (t .rows) steps places₀ places sums₀ sums left k a paid
+Inv-loop t units held caps floors reached firsts steps places₀ sums₀ left₀ k₀ a₀ paid₀ places sums left k a paid = Going (rowsWork t units caps floors) steps places₀ places sums₀ sums left k a paid
 
 abbrev μ-loop : tie.MeasureT-loop
-μ-loop t units held costs values work steps places₀ sums₀ left₀ k₀ a₀ paid₀ places sums left k a paid = left
+μ-loop t units held caps floors reached firsts steps places₀ sums₀ left₀ k₀ a₀ paid₀ places sums left k a paid = left
 
 loop-holds : tie.Need-loop-holds Inv-loop μ-loop
-loop-holds c =
-    let x = c .before .before .before .before .before .before .args in
-    going-start (x .t) (now (x .units)) (now (x .costs)) (now (x .values)) (now (x .work)) (x .steps) (now (x .places)) (now (x .sums)) (c .before .before .before .before .before .before .pre .0)
+loop-holds c = going-start (c .before .before .before .pre .0) (c .before .before .before .pre .1)
 
 sub-left : tie.Need-sub-left Inv-loop μ-loop
 sub-left c = search needs
 
+cap-at-requires : tie.Need-cap-at-requires Inv-loop μ-loop
+cap-at-requires c κs = (omega (arith, going-in (c .before .before .before .before .before .pre .0) (c .before .before .before .before .before .pre .1) (c .before .loop .inv), c .before .before .before .before .before .pre .0 .good .few), going-pays (c .before .before .before .before .before .pre .0) (c .before .before .before .before .before .pre .1) (c .before .loop .inv))
+
 wide32-requires : tie.Need-wide32-requires Inv-loop μ-loop
 wide32-requires c κs = search needs
 
-next-row-requires : tie.Need-next-row-requires Inv-loop μ-loop
-next-row-requires c κs =
-    let x = c .before .before .before .before .before .before .before .before .before .args in
-    let l = c .before .before .loop in
-    (c .before .before .before .before .before .before .before .before .before .pre .0 .good, l .inv .in-rows, going-room (x .t) (now (x .units)) (now (x .costs)) (now (x .values)) (now (x .work)) (x .steps) (now (x .places)) (now (x .sums)) (c .before .before .before .before .before .before .before .before .before .pre .0) (l .inv) (c .before .loop-test .taken), c .before .before .before .before .before .before .before .before .before .pre .1)
+wide32-requires-2 : tie.Need-wide32-requires-2 Inv-loop μ-loop
+wide32-requires-2 c κs = search needs
 
-cap-requires : tie.Need-cap-requires Inv-loop μ-loop
-cap-requires c κs = omega (arith, c .before .before .before .before .before .before .before .before .before .before .pre .0 .good .some)
+next-row-requires : tie.Need-next-row-requires Inv-loop μ-loop
+next-row-requires c κs = (c .before .before .before .before .before .before .before .before .pre .0 .good .few, going-in (c .before .before .before .before .before .before .before .before .pre .0) (c .before .before .before .before .before .before .before .before .pre .1) (c .before .before .before .before .loop .inv))
 
 cast-store-u16 : tie.Need-cast-store-u16 Inv-loop μ-loop
-cast-store-u16 c = omega (arith, c .before .before .next-row .ensures .0, c .before .before .before .before .before .before .before .before .before .before .before .before .pre .0 .good .few)
+cast-store-u16 c = omega (arith, c .before .next-row .ensures .0, c .before .before .before .before .before .before .before .before .before .before .pre .0 .good .few)
 
 store-u16-requires : tie.Need-store-u16-requires Inv-loop μ-loop
 store-u16-requires c κs = search needs
@@ -42,16 +39,14 @@ store-u32-requires : tie.Need-store-u32-requires Inv-loop μ-loop
 store-u32-requires c κs = search needs
 
 add-k : tie.Need-add-k Inv-loop μ-loop
-add-k c = omega (arith, c .before .before .before .before .before .before .before .before .before .before .before .before .loop .inv .counts, c .before .before .before .before .before .before .before .before .before .before .before .loop-test .taken)
+add-k c = omega (arith, c .before .before .before .before .before .before .before .before .before .before .before .before .before .loop .inv .counts, c .before .before .before .before .before .before .before .before .before .before .before .before .loop-test .taken)
 
 loop-less : tie.Need-loop-less Inv-loop μ-loop
 loop-less c = search needs
 
 loop-again : tie.Need-loop-again Inv-loop μ-loop
-loop-again c =
-    let x = c .before .before .before .before .before .before .before .before .before .before .before .before .before .before .before .before .before .before .before .args in
-    let l = c .before .before .before .before .before .before .before .before .before .before .before .before .loop in
-    going-on (x .t) (now (x .units)) (now (x .costs)) (now (x .values)) (now (x .work)) (x .steps) (now (x .places)) (now (x .sums)) (c .before .before .before .before .before .before .before .before .before .before .before .before .before .before .before .before .before .before .before .pre .0) (l .inv) (c .before .before .before .before .before .before .before .before .before .before .before .loop-test .taken) (c .before .before .before .before .before .before .before .before .before .before .wide32 .ensures .0) (c .before .before .before .before .before .before .before .before .before .next-row .ensures .0) (c .before .before .before .before .before .before .before .before .before .next-row .ensures .1) (c .before .before .before .before .before .before .before .before .cap .ensures) (c .before .before .before .before .before .before .store-u16 .ensures) (c .before .before .store-u32 .ensures)
+loop-again c = going-on (c .before .before .before .before .before .before .before .before .before .before .before .before .before .before .before .before .before .pre .0) (c .before .before .before .before .before .before .before .before .before .before .before .before .before .before .before .before .before .pre .1) (c .before .before .before .before .before .before .before .before .before .before .before .before .before .loop .inv) (c .before .before .before .before .before .before .before .before .before .before .before .before .loop-test .taken)
+    (rw (← c .before .before .before .before .before .before .before .before .before .wide322 .ensures .0, ← c .before .before .before .before .before .before .before .before .before .before .before .cap-at .ensures, ← c .before .before .before .before .before .before .before .before .before .before .wide32 .ensures .0) (c .before .before .before .before .before .before .before .before .next-row .ensures .1)) (c .before .before .before .before .before .before .before .before .before .before .before .cap-at .ensures) (c .before .before .before .before .before .before .store-u16 .ensures) (c .before .before .store-u32 .ensures)
 
 same-length : tie.Need-same-length Inv-loop μ-loop
 same-length c = c .before .loop .inv .places-long
@@ -60,10 +55,7 @@ same-length-2 : tie.Need-same-length-2 Inv-loop μ-loop
 same-length-2 c = c .before .loop .inv .sums-long
 
 returns : tie.Need-returns Inv-loop μ-loop
-returns c =
-    let x = c .before .before .before .before .before .before .before .before .args in
-    let l = c .before .loop in
-    going-done (x .t) (now (x .units)) (now (x .costs)) (now (x .values)) (now (x .work)) (x .steps) (now (x .places)) (now (x .sums)) (c .before .before .before .before .before .before .before .before .pre .0) (l .inv) (omega (arith, c .loop-test .left))
+returns c = going-done (c .before .before .before .before .before .pre .0) (c .before .before .before .before .before .pre .1) (c .before .loop .inv) (omega (arith, c .loop-test .left))
 
 pub walk-spec : {M : Type 1} → statement M
 walk-spec =
@@ -73,9 +65,10 @@ walk-spec =
     μ-loop
     loop-holds
     sub-left
+    cap-at-requires
     wide32-requires
+    wide32-requires-2
     next-row-requires
-    cap-requires
     cast-store-u16
     store-u16-requires
     store-u32-requires

@@ -1,0 +1,26 @@
+-- A bound as a sum of coins, by the signs that the code tests. Assumes nothing.
+use mathlib.Core.Path.{_≡_, refl, subst}
+use mathlib.Core.Bool.{true, false}
+use Prim.Native.Nat.{ℕ, _≤_, _<_}
+use native.Mathlib.Omega.{arith}
+use borrow.Author.Tests.{ltb-true, ltb-false}
+use lib.Dec.{T}
+use lib.IntN.{ℤ, pos, negsuc, natAbs}
+use lib.Signed.{ltZ, nonNeg, mag}
+use Rattle.exchange.specs.Rule.{coins}
+
+pub coins-none : (z : ℤ) → ltZ z (pos 0) ≡ true → 0 ≡ coins z
+coins-none (pos n) e = let h = ltb-true n 0 e in omega arith
+coins-none (negsuc n) e = refl
+
+pub coins-some : (z : ℤ) → ltZ z (pos 0) ≡ false → T (nonNeg z) × (natAbs z ≡ coins z) × (natAbs z ≡ mag z)
+coins-some (pos n) e = (tt, refl, refl)
+coins-some (negsuc n) e = absurd (subst T e tt)
+
+pub coins-under : (z : ℤ) (P : ℕ) → ltZ z (pos 0) ≡ false → ltZ z (pos P) ≡ true → coins z < P
+coins-under (pos n) P e f = ltb-true n P f
+coins-under (negsuc n) P e f = absurd (subst T e tt)
+
+pub coins-over : (z : ℤ) (P : ℕ) → ltZ z (pos 0) ≡ false → ltZ z (pos P) ≡ false → P ≤ coins z
+coins-over (pos n) P e f = ltb-false n P f
+coins-over (negsuc n) P e f = absurd (subst T e tt)

@@ -1,0 +1,335 @@
+-- The way down through the rows that a row holds: from one that can pay to the next. Assumes nothing.
+use mathlib.Core.Path.{_≡_, refl, sym, ap, subst, _∙_}
+use mathlib.Core.Bool.{Bool, true, false, _&&_, and-eq-true-iff}
+use mathlib.Core.List.{List, [], _∷_}
+use Prim.Native.Nat.{ℕ, zero, suc, _+_, _-_, _*_, _/_, _%_, _≤_, _<_}
+use native.Mathlib.Nat.{add-zero, div-add-mod', div-div-eq-div-mul, div-eq-of-lt, div-mul-le-self, div-one, mod-eq-of-lt, mod-le, mod-lt, mod-mod, mod-one, mul-add-div-right, mul-add-mod-self-right, mul-assoc, mul-comm, mul-le-mul-right, mul-one}
+use native.Mathlib.Decide.{decLt, ℕ-discrete}
+use native.Mathlib.Omega.{arith}
+use borrow.Author.Tests.{lt-ltb, ltb-true, leb-true, leb-false}
+use mir.Facts.{and-yes, yes-and}
+use lib.Dec.{T, leb, ltb, leb→le, le→leb}
+use lib.ListN.{length, getD, take, drop}
+use Rattle.grid.specs.Rows.{rowsOf}
+use Rattle.grid.proofs.RowLaws.{rest-mul, rows-pos, rows-cons, rows-drop, rows-end}
+use Rattle.exchange.specs.Forms.{holdsRow}
+use Rattle.exchange.proofs.TableLaws.{row-self}
+use Rattle.exchange.proofs.TablePlan.RowUnits.{holds-rises}
+use Rattle.grid.specs.Units.{unitOf}
+use Rattle.held.specs.Down.{Open, CapsRise, Down}
+use Rattle.held.proofs.HoldLaws.{holds-cons}
+
+-- ---- rows by the items before one, that item, and those after it
+
+and-assoc : (x y z : Bool) → (x && (y && z)) ≡ ((x && y) && z)
+and-assoc true y z = refl
+and-assoc false y z = refl
+
+rows-split : (j : ℕ) (us : List ℕ) → rowsOf us ≡ rowsOf (drop j us) * rowsOf (take j us)
+unfolding rowsOf
+rows-split zero us = sym (mul-one (rowsOf us))
+rows-split (suc j) [] = refl
+rows-split (suc j) (u ∷ us) = ap (λ (n : ℕ). n * (u + 1)) (rows-split j us) ∙ mul-assoc (rowsOf (drop j us)) (rowsOf (take j us)) (u + 1)
+
+holds-split : (j : ℕ) (us : List ℕ) (a b : ℕ)
+    → holdsRow us a b ≡ (holdsRow (take j us) (a / rowsOf (drop j us)) (b / rowsOf (drop j us)) && holdsRow (drop j us) a b)
+unfolding holdsRow
+holds-split zero us a b = refl
+holds-split (suc j) [] a b = refl
+holds-split (suc j) (u ∷ us) a b =
+    let R = rowsOf (drop j us) in
+    let m = rowsOf (take j us) in
+    rw (rows-split j us, ← div-div-eq-div-mul a R m, ← div-div-eq-div-mul b R m, holds-split j us a b)
+    (and-assoc (leb (a / R / m % (u + 1)) (b / R / m % (u + 1))) (holdsRow (take j us) (a / R) (b / R)) (holdsRow (drop j us) a b))
+
+by-digit : (m n q d : ℕ) → m ≡ q * n + d → d < n → (m / n ≡ q) × (m % n ≡ d)
+by-digit m n q d e h =
+    (rw e (mul-add-div-right (omega arith) q d ∙ rw (div-eq-of-lt h) (add-zero q)), rw e (mul-add-mod-self-right q n d ∙ mod-eq-of-lt h))
+
+-- a row of a round, by the units of its first item and the row of the others
+mod-split : (a R u : ℕ) → 0 < R → a % (R * (u + 1)) ≡ a / R % (u + 1) * R + a % R
+mod-split a R u p = rest-mul a R (u + 1) p (omega arith) ∙ rw (mul-comm R (a / R % (u + 1)))
+
+-- every round has the same units
+digits : (a a′ R u : ℕ) → 0 < R → a % (R * (u + 1)) ≡ a′ % (R * (u + 1)) → (a / R % (u + 1) ≡ a′ / R % (u + 1)) × (a % R ≡ a′ % R)
+digits a a′ R u p e =
+    let x = by-digit _ R (a / R % (u + 1)) (a % R) (mod-split a R u p) (mod-lt a p) in
+    let y = by-digit _ R (a′ / R % (u + 1)) (a′ % R) (mod-split a′ R u p) (mod-lt a′ p) in
+    (sym (x .0) ∙ ap (λ (m : ℕ). m / R) e ∙ y .0, sym (x .1) ∙ ap (λ (m : ℕ). m % R) e ∙ y .1)
+
+holds-round : (us : List ℕ) (a a′ b b′ : ℕ) → a % rowsOf us ≡ a′ % rowsOf us → b % rowsOf us ≡ b′ % rowsOf us → holdsRow us a b ≡ holdsRow us a′ b′
+unfolding holdsRow rowsOf
+holds-round [] a a′ b b′ e f = refl
+holds-round (u ∷ us) a a′ b b′ e f =
+    let x = digits a a′ (rowsOf us) u (rows-pos us) e in
+    let y = digits b b′ (rowsOf us) u (rows-pos us) f in
+    rw (x .0, y .0, holds-round us a a′ b b′ (x .1) (y .1))
+
+-- a row stands no later in its round than one that holds it
+round-le : (us : List ℕ) (a b : ℕ) → T (holdsRow us a b) → a % rowsOf us ≤ b % rowsOf us
+round-le us a b t =
+    let R = rowsOf us in
+    holds-rises us (a % R) (b % R) (mod-lt a (rows-pos us)) (mod-lt b (rows-pos us))
+    (subst T (holds-round us a (a % R) b (b % R) (sym (mod-mod a R)) (sym (mod-mod b R))) t)
+
+-- row b holds row a, by the items before item j, item j, and those after it
+record Parts (us : List ℕ) (j a b : ℕ) : Type 0 where
+  before : T (holdsRow (take j us) (a / rowsOf (drop j us)) (b / rowsOf (drop j us)))
+  here : unitOf us j a ≤ unitOf us j b
+  after : T (holdsRow (drop (j + 1) us) a b)
+
+module _ (us : List ℕ) (j : ℕ) (more : j < length us) where
+  parts : (a b : ℕ) → T (holdsRow us a b) → Parts us j a b
+  parts a b t =
+      let R = rowsOf (drop j us) in
+      let x = and-yes (holdsRow (take j us) (a / R) (b / R)) (holdsRow (drop j us) a b) (subst T (holds-split j us a b) t) in
+      let y = and-yes (leb (unitOf us j a) (unitOf us j b)) (holdsRow (drop (j + 1) us) a b) (subst T (holds-cons j us a b more) (x .1)) in
+      record { before = x .0; here = leb→le _ _ (y .0); after = y .1 }
+
+  whole : (a b : ℕ) → Parts us j a b → T (holdsRow us a b)
+  whole a b p =
+      let R = rowsOf (drop j us) in
+      let y = yes-and (leb (unitOf us j a) (unitOf us j b)) (holdsRow (drop (j + 1) us) a b) (le→leb _ _ (p .here)) (p .after) in
+      subst T (sym (holds-split j us a b))
+      (yes-and (holdsRow (take j us) (a / R) (b / R)) (holdsRow (drop j us) a b) (p .before) (subst T (sym (holds-cons j us a b more)) y))
+
+  -- a row by the items up to item j
+  up : (a : ℕ) → a / rowsOf (drop j us) ≡ a / rowsOf (drop (j + 1) us) / (getD us j 0 + 1)
+  up a = rw (rows-cons j us more) (sym (div-div-eq-div-mul a (rowsOf (drop (j + 1) us)) (getD us j 0 + 1)))
+
+  -- row y has one unit less of item j than row a, and of the items after it those of row b
+  module _ (a b y : ℕ) (some : 0 < unitOf us j a) (less : y / rowsOf (drop (j + 1) us) ≡ a / rowsOf (drop (j + 1) us) - 1)
+      (back : y % rowsOf (drop (j + 1) us) ≡ b % rowsOf (drop (j + 1) us)) where
+    one-less : (y / rowsOf (drop j us) ≡ a / rowsOf (drop j us)) × (unitOf us j y ≡ unitOf us j a - 1)
+    one-less =
+        let q = a / rowsOf (drop (j + 1) us) in
+        let n = getD us j 0 + 1 in
+        let x = by-digit (q - 1) n (q / n) (q % n - 1) (omega (arith, div-add-mod' q n)) (omega (arith, mod-lt q {m = n} (omega arith))) in
+        (rw (up y, up a, less) (x .0), rw less (x .1))
+
+    -- where row b holds row a, it holds row y
+    pub less-held : T (holdsRow us a b) → T (holdsRow us y b)
+    less-held t =
+        let p = parts a b t in
+        whole y b
+        (record {
+          before = rw (one-less .0) (p .before);
+          here = omega (arith, one-less .1, p .here);
+          after = subst T (holds-round (drop (j + 1) us) y y y b refl back) (row-self (drop (j + 1) us) y);
+        })
+
+    -- row y holds each row that row b holds and that has fewer units of item j than row a, and of the items before it those of row a
+    pub less-holds : (r : ℕ) → T (holdsRow us r b) → r / rowsOf (drop j us) ≡ a / rowsOf (drop j us)
+        → r / rowsOf (drop (j + 1) us) < a / rowsOf (drop (j + 1) us) → T (holdsRow us r y)
+    less-holds r t e l =
+        let n = getD us j 0 + 1 in
+        let p = parts r b t in
+        let q = a / rowsOf (drop (j + 1) us) in
+        let x = r / rowsOf (drop (j + 1) us) in
+        let f : x / n ≡ q / n = sym (up r) ∙ e ∙ up a in
+        let g : x / n * n ≡ q / n * n = ap (λ (m : ℕ). m * n) f in
+        whole r y
+        (record {
+          before = rw (one-less .0, e) (row-self (take j us) (a / rowsOf (drop j us)));
+          here = omega (arith, one-less .1, div-add-mod' x n, div-add-mod' q n);
+          after = subst T (holds-round (drop (j + 1) us) r r b y refl (sym back)) (p .after);
+        })
+
+-- ---- quotients
+
+div-rises : (x y s : ℕ) → 0 < s → x ≤ y → x / s ≤ y / s
+div-rises x y s p l = go (decLt (y / s) (x / s))
+  where
+    go : Dec (y / s < x / s) → x / s ≤ y / s
+    go (yes m) =
+        let k : suc (y / s) * s ≤ x / s * s = mul-le-mul-right s m in
+        absurd (omega (arith, div-add-mod' x s, div-add-mod' y s, mod-lt y p))
+    go (no m) = omega arith
+
+-- the units of an item are no more rows than the row has
+pub unit-rows : (r s n : ℕ) → r / s % n * s ≤ r
+unit-rows r s n = let m : r / s % n * s ≤ r / s * s = mul-le-mul-right s (mod-le (r / s) n) in omega (arith, div-mul-le-self r s)
+
+-- ---- the test of an item
+
+pub positive : (x : ℕ) → (x ≡ 0 → ⊥) → 0 < x
+positive zero n = absurd (n refl)
+positive (suc x) n = omega arith
+
+pub less-none : (has need cap : ℕ) → has ≡ 0 → false ≡ (ltb 0 has && leb need cap)
+less-none has need cap z = rw z
+
+pub less-tried : (has need cap : ℕ) → (has ≡ 0 → ⊥) → leb need cap ≡ (ltb 0 has && leb need cap)
+less-tried has need cap n = rw (lt-ltb 0 has (positive has n))
+
+pub less-passes : (has need cap : ℕ) → true ≡ (ltb 0 has && leb need cap) → (0 < has) × (need ≤ cap)
+less-passes has need cap e =
+    let x = and-eq-true-iff (ltb 0 has) (leb need cap) .0 (sym e) in
+    (ltb-true 0 has (x .0), leb-true need cap (x .1))
+
+-- ---- the way down from row a, from the last item to the first
+
+-- no open row below row a has its units of the items before j; row has those units, and of the items from j on those of row b
+pub record Descending (us caps : List ℕ) (b need a j stride row : ℕ) : Type 0 where
+  pub within : j ≤ length us
+  pub stride-is : stride ≡ rowsOf (drop j us)
+  pub row-is : row ≡ a / stride * stride + b % stride
+  pub passed : (r : ℕ) → r < a → r / stride ≡ a / stride → Open us caps b need r → ⊥
+
+pub descending-start : (us caps : List ℕ) (b need a : ℕ) → Descending us caps b need a (length us) 1 a
+descending-start us caps b need a =
+    record {
+      within = omega arith;
+      stride-is = sym (rows-end us);
+      row-is = omega (arith, div-one a, mod-one b);
+      passed = λ r l e o. omega (arith, div-one a, div-one r);
+    }
+
+-- all items are tried
+pub descending-none : (us caps : List ℕ) (b need a j stride row : ℕ) → Descending us caps b need a j stride row → j ≡ 0 → a < rowsOf us
+    → Down us caps b need a 0
+descending-none us caps b need a j stride row h z l =
+    let all : stride ≡ rowsOf us = h .stride-is ∙ rw z in
+    record {
+      lower = omega arith;
+      opens = λ m. absurd (omega arith);
+      passed = λ r m k o.
+          let e : r / stride ≡ 0 = div-eq-of-lt (omega arith) in
+          let f : a / stride ≡ 0 = div-eq-of-lt (omega arith) in
+          h .passed r k (e ∙ sym f) o;
+    }
+
+module _ {us caps : List ℕ} {b need a j stride row : ℕ} (h : Descending us caps b need a j stride row) (some : 0 < j) where
+  one : j - 1 + 1 ≡ j
+  one = omega arith
+
+  before : j - 1 < length us
+  before = omega (arith, h .within)
+
+  pub stride-at : stride ≡ rowsOf (drop (j - 1 + 1) us)
+  stride-at = rw one (h .stride-is)
+
+  stride-pos : 0 < stride
+  stride-pos = rw (h .stride-is) (rows-pos (drop j us))
+
+  -- the units of the item before j, by the stride
+  unit-is : (r : ℕ) → unitOf us (j - 1) r ≡ r / stride % (getD us (j - 1) 0 + 1)
+  unit-is r = rw (← stride-at)
+
+  pub stride-next : stride * (getD us (j - 1) 0 + 1) ≡ rowsOf (drop (j - 1) us)
+  stride-next = sym (rows-cons (j - 1) us before ∙ rw (← stride-at))
+
+  pub stride-few : rowsOf us ≤ 128 → stride * (getD us (j - 1) 0 + 1) ≤ 128
+  stride-few few = omega (arith, stride-next, rows-drop (j - 1) us)
+
+  pub full-rows : (full : ℕ) → full ≡ unitOf us (j - 1) b → full * stride ≤ b
+  full-rows full f =
+      let n = getD us (j - 1) 0 + 1 in
+      let i : full * stride ≡ b / stride % n * stride = ap (λ (x : ℕ). x * stride) (f ∙ unit-is b) in
+      omega (arith, unit-rows b stride n)
+
+  pub row-high : row ≤ a + b
+  row-high = omega (arith, h .row-is, div-mul-le-self a stride, mod-le b stride)
+
+  module _ (has : ℕ) (e : has ≡ unitOf us (j - 1) a) where
+    has-rows : has * stride ≡ a / stride % (getD us (j - 1) 0 + 1) * stride
+    has-rows = ap (λ (x : ℕ). x * stride) (e ∙ unit-is a)
+
+    pub row-low : has * stride ≤ row
+    row-low =
+        let n = getD us (j - 1) 0 + 1 in
+        let m : a / stride % n * stride ≤ a / stride * stride = mul-le-mul-right stride (mod-le (a / stride) n) in
+        omega (arith, h .row-is, has-rows)
+
+    -- the row with one unit less of the item
+    module _ (unit : 0 < has) where
+      less-is : (stride ≤ row) × (((row - stride) / stride ≡ a / stride - 1) × ((row - stride) % stride ≡ b % stride))
+      less-is =
+          let q = a / stride in
+          let n = getD us (j - 1) 0 + 1 in
+          let some-rows : 0 < q = omega (arith, e, unit-is a, mod-le q n) in
+          let all : q - 1 + 1 ≡ q = omega arith in
+          let m : (q - 1 + 1) * stride ≡ q * stride = ap (λ (x : ℕ). x * stride) all in
+          (omega (arith, h .row-is), by-digit (row - stride) stride (q - 1) (b % stride) (omega (arith, h .row-is)) (mod-lt b stride-pos))
+
+      pub less-low : stride ≤ row
+      less-low = less-is .0
+
+      pub less-below : row - stride < a
+      less-below = omega (arith, h .row-is, less-low, div-add-mod' a stride, mod-lt b stride-pos)
+
+      less-divided : (row - stride) / rowsOf (drop (j - 1 + 1) us) ≡ a / rowsOf (drop (j - 1 + 1) us) - 1
+      less-divided = rw (← stride-at) (less-is .1 .0)
+
+      less-back : (row - stride) % rowsOf (drop (j - 1 + 1) us) ≡ b % rowsOf (drop (j - 1 + 1) us)
+      less-back = rw (← stride-at) (less-is .1 .1)
+
+      -- it is the next row down, where it can pay
+      pub descending-found : T (holdsRow us a b) → need ≤ getD caps (row - stride) 0 → Down us caps b need a (row - stride + 1)
+      descending-found t pays =
+          let back : row - stride + 1 - 1 ≡ row - stride = omega arith in
+          record {
+            lower = omega (arith, less-below);
+            opens = λ _.
+                rw back
+                (record { held = less-held us (j - 1) before a b (row - stride) (omega (arith, e)) less-divided less-back t; pays = pays });
+            passed = λ r l m o. go r l m o (ℕ-discrete (r / stride) (a / stride));
+          }
+        where
+          -- a row between them that row b holds has the units of row a of the items before j
+          go : (r : ℕ) → row - stride + 1 ≤ r → r < a → Open us caps b need r → Dec (r / stride ≡ a / stride) → ⊥
+          go r l m o (yes q) = h .passed r m q o
+          go r l m o (no q) =
+              let y = row - stride in
+              let up : r / stride ≤ a / stride = div-rises r a stride stride-pos (omega arith) in
+              let down : y / stride ≤ r / stride = div-rises y r stride stride-pos (omega arith) in
+              let same : r / stride ≡ y / stride = omega (arith, less-is .1 .0) in
+              let g : r / stride * stride ≡ y / stride * stride = ap (λ (x : ℕ). x * stride) same in
+              let k : r % stride ≤ b % stride = rw stride-at (round-le (drop (j - 1 + 1) us) r b (parts us (j - 1) before r b (o .held) .after)) in
+              omega (arith, div-add-mod' r stride, div-add-mod' y stride, less-is .1 .1)
+
+    -- it is not: no row with fewer units of the item can pay
+    module _ (rise : CapsRise us caps) (full row′ stride′ : ℕ) (f : full ≡ unitOf us (j - 1) b) (few : a < rowsOf us) (t : false ≡ (ltb 0 has && leb need (getD caps (row - stride) 0)))
+        (next : row′ ≡ row + full * stride - has * stride) (wide : stride′ ≡ stride * (getD us (j - 1) 0 + 1)) where
+      fewer : (r : ℕ) → r < a → r / stride < a / stride → r / stride′ ≡ a / stride′ → Open us caps b need r → ⊥
+      fewer r l m same o = go (decLt 0 has)
+        where
+          n : ℕ
+          n = getD us (j - 1) 0 + 1
+
+          above : r / stride / n ≡ a / stride / n
+          above = div-div-eq-div-mul r stride n ∙ (rw wide at same) ∙ sym (div-div-eq-div-mul a stride n)
+
+          go : Dec (0 < has) → ⊥
+          go (yes p) =
+              let poor : getD caps (row - stride) 0 < need = leb-false _ _ (sym (rw (lt-ltb 0 has p) at t)) in
+              let holds : T (holdsRow us r (row - stride)) =
+              less-holds us (j - 1) before a b (row - stride) (omega (arith, e)) (less-divided p) (less-back p) r (o .held)
+              (rw (← stride-next, ← wide) same) (rw (← stride-at) m) in
+              omega (arith, rise .cap-rises r (row - stride) (omega arith) (omega (arith, less-below p)) holds, o .pays)
+          go (no p) =
+              let g : r / stride / n * n ≡ a / stride / n * n = ap (λ (x : ℕ). x * n) above in
+              omega (arith, e, unit-is a, div-add-mod' (r / stride) n, div-add-mod' (a / stride) n)
+
+      pub descending-next : Descending us caps b need a (j - 1) stride′ row′
+      descending-next =
+          record {
+            within = omega (arith, h .within);
+            stride-is = wide ∙ stride-next;
+            row-is = moved;
+            passed = λ r l same o. go r l same o (ℕ-discrete (r / stride) (a / stride));
+          }
+        where
+          n : ℕ
+          n = getD us (j - 1) 0 + 1
+
+          moved : row′ ≡ a / stride′ * stride′ + b % stride′
+          moved =
+              let g : (a / stride / n * n + a / stride % n) * stride ≡ a / stride * stride = ap (λ (x : ℕ). x * stride) (div-add-mod' (a / stride) n) in
+              let i : full * stride ≡ b / stride % n * stride = ap (λ (x : ℕ). x * stride) (f ∙ unit-is b) in
+              rw (wide, mod-split b stride (getD us (j - 1) 0) stride-pos, ← div-div-eq-div-mul a stride n)
+              (omega (arith, next, h .row-is, has-rows, row-low))
+
+          go : (r : ℕ) → r < a → r / stride′ ≡ a / stride′ → Open us caps b need r → Dec (r / stride ≡ a / stride) → ⊥
+          go r l same o (yes q) = h .passed r l q o
+          go r l same o (no q) = fewer r l (omega (arith, div-rises r a stride stride-pos (omega arith))) same o

@@ -1,0 +1,3 @@
+pub mod HoldLaws
+pub mod WordLaws
+pub mod DownLaws

@@ -1,0 +1,68 @@
+-- `session::Session::pay` meets its contract, by the contracts of its callees. Assumes nothing.
+use borrow.Author.Needs.{needs}
+use Rattle.session.specs.declared.Side.the-variants.{Payment}
+use Rattle.session.proofs.StepLaws.{step-stands}
+use Rattle.session.proofs.CodeLaws.{report-other, report-idle, report-marked, report-passed}
+use Rattle.session.proofs.Session.pay.Statement.{statement}
+use Rattle.session.proofs.Session.pay.Tie as tie
+
+sum-at-requires : tie.Need-sum-at-requires
+sum-at-requires c κs = search needs
+
+answer-requires : tie.Need-answer-requires
+answer-requires c κs = search needs
+
+returns : tie.Need-returns
+returns c = rw (c .answer .ensures) (report-other _ _ _ _ (c .before .before .before .before .before .pre) Payment _ (c .before .before .sum-at .ensures) (c .before .if1 .taken))
+
+payment-outstanding-requires : tie.Need-payment-outstanding-requires
+payment-outstanding-requires c κs = search needs
+
+answer-requires-2 : tie.Need-answer-requires-2
+answer-requires-2 c κs = search needs
+
+returns-2 : tie.Need-returns-2
+returns-2 c = rw (c .answer2 .ensures) (report-idle _ _ _ _ (c .before .before .before .before .before .before .before .pre) Payment _ (c .before .before .before .before .sum-at .ensures) (c .before .before .payment-outstanding .ensures) (c .before .if2 .taken))
+
+place-at-requires : tie.Need-place-at-requires
+place-at-requires c κs = search needs
+
+delivery-outstanding-requires : tie.Need-delivery-outstanding-requires
+delivery-outstanding-requires c κs = search needs
+
+answer-requires-3 : tie.Need-answer-requires-3
+answer-requires-3 c κs = search needs
+
+returns-3 : tie.Need-returns-3
+returns-3 c = rw (c .answer3 .ensures) (report-marked _ _ _ _ (c .before .before .before .before .before .before .before .before .before .before .pre) Payment _ (c .before .before .before .before .before .before .before .sum-at .ensures) (c .before .before .before .before .before .payment-outstanding .ensures) (c .before .before .before .before .before .before .if1 .left) (c .before .before .before .before .if2 .left) (c .before .before .before .place-at .ensures) (c .before .before .delivery-outstanding .ensures) (c .before .if3 .taken))
+
+add-pass-over : tie.Need-add-pass-over
+add-pass-over c = search needs
+
+pass-over-requires : tie.Need-pass-over-requires
+pass-over-requires c κs = step-stands _ _ _ _ (c .before .before .before .before .before .before .before .before .before .pre) (c .before .before .place-at .ensures) (c .before .before .before .before .before .before .sum-at .ensures)
+
+answer-requires-4 : tie.Need-answer-requires-4
+answer-requires-4 c κs = search needs
+
+returns-4 : tie.Need-returns-4
+returns-4 c = rw (c .answer4 .ensures) (report-passed _ _ _ _ (c .before .before .before .before .before .before .before .before .before .before .before .pre) Payment _ (c .before .before .before .before .before .before .before .before .sum-at .ensures) (c .before .before .before .before .before .before .payment-outstanding .ensures) (c .before .before .before .before .before .before .before .if1 .left) (c .before .before .before .before .before .if2 .left) (c .before .before .before .before .place-at .ensures) (c .before .before .before .delivery-outstanding .ensures) (c .before .before .if3 .left) (c .before .pass-over .ensures))
+
+pub pay-spec : {M : Type 1} → statement M
+pay-spec =
+    tie.close
+    (tie.spec
+    sum-at-requires
+    answer-requires
+    returns
+    payment-outstanding-requires
+    answer-requires-2
+    returns-2
+    place-at-requires
+    delivery-outstanding-requires
+    answer-requires-3
+    returns-3
+    add-pass-over
+    pass-over-requires
+    answer-requires-4
+    returns-4)
