@@ -2,6 +2,7 @@
 //! defection costs alone decide how far a step can go.
 
 use crate::deals::{self, Deal, Terms};
+use crate::random::Random;
 
 /// How much can be risked at a time.
 #[derive(Clone, Copy, PartialEq)]
@@ -21,6 +22,8 @@ pub enum Risk {
 const TIGHT: u32 = 60;
 /// More than twice TIGHT.
 const TOO_DEAR: u32 = 130;
+/// Covers one irregular rise or some.
+const UNEVEN: u32 = 150;
 
 fn terms(total: u32, risk: Risk) -> Terms {
     let (supplier, buyer) = match risk {
@@ -76,6 +79,34 @@ pub fn table(units: &[u8], risk: Risk) -> Deal {
     let total = cells[cells.len() - 1];
     let given: Vec<_> = cells.into_iter().map(Some).collect();
     deals::table(terms(total, risk), units, &given, &given)
+}
+
+/// A cell for each row: that of the greatest row with one unit less, and from 0 to 99 more, in no simple order.
+fn irregular(units: &[u8], random: &mut Random) -> Vec<u32> {
+    let mut cells = vec![0; deals::rows(units)];
+    for row in 1..cells.len() {
+        let held = deals::held(units, row);
+        let mut stride = 1;
+        let mut below = 0;
+        for (item, count) in held.iter().enumerate().rev() {
+            if *count > 0 {
+                below = below.max(cells[row - stride]);
+            }
+            stride *= units[item] as usize + 1;
+        }
+        cells[row] = below + random.below(100) as u32;
+    }
+    cells
+}
+
+/// A table with every cell given, whose costs and values rise by irregular amounts: in some steps one unit, in others many.
+pub fn irregular_table(units: &[u8]) -> Deal {
+    let mut random = Random::new(16);
+    let (costs, values) = (irregular(units, &mut random), irregular(units, &mut random));
+    let price = costs[costs.len() - 1];
+    let given = |cells: Vec<u32>| -> Vec<_> { cells.into_iter().map(Some).collect() };
+    let terms = Terms { price, supplier: UNEVEN, buyer: UNEVEN };
+    deals::table(terms, units, &given(costs), &given(values))
 }
 
 /// A table with every cell blank but the last.

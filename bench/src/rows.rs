@@ -57,6 +57,9 @@ impl Bench {
                 self.plan(&format!("table, 128 rows, units {units:?}"), &cases::table(units, risk));
             }
         }
+        for units in [&[7, 15][..], &[7, 3, 3], &[3, 3, 3, 1]] {
+            self.plan(&format!("table, irregular cells, units {units:?}"), &cases::irregular_table(units));
+        }
     }
 
     /// The same deals as for planning; the steps of each kind of plan are its own.
