@@ -70,13 +70,13 @@ striding-done w h = record { first = w .first; stride-at = λ x l. w .known x (o
 
 -- ---- item by item
 
-module _ (us strides cells : List ℕ) (r : ℕ) (small : Small us) (known : Strides us strides) where
-  -- no byte is above those of the items
-  no-byte : (i : ℕ) → length us ≤ i → packed us r / 256 ^ i % 256 ≡ 0
-  no-byte i h =
-      let most : 256 ^ length us ≤ 256 ^ i = pow-le-pow-right {n = 256} (omega arith) {j = i} h in
-      rw (div-eq-of-lt (lt-of-lt-of-le (packed-small us r small) most)) (zero-mod 256)
+-- no byte is above those of the items
+pub no-byte : (us : List ℕ) (r i : ℕ) → Small us → length us ≤ i → packed us r / 256 ^ i % 256 ≡ 0
+no-byte us r i small h =
+    let most : 256 ^ length us ≤ 256 ^ i = pow-le-pow-right {n = 256} (omega arith) {j = i} h in
+    rw (div-eq-of-lt (lt-of-lt-of-le (packed-small us r small) most)) (zero-mod 256)
 
+module _ (us strides cells : List ℕ) (r : ℕ) (small : Small us) (known : Strides us strides) where
   -- the byte of one of the last items
   byte-is : (i : ℕ) → i < length us → packed us r / 256 ^ i % 256 ≡ r / getD strides i 0 % (getD us (length us - suc i) 0 + 1)
   byte-is i h =
@@ -99,7 +99,7 @@ module _ (us strides cells : List ℕ) (r : ℕ) (small : Small us) (known : Str
       go (no l) e =
           let a : length us - i ≡ 0 = omega arith in
           let b : length us - suc i ≡ 0 = omega arith in
-          rw (e, no-byte i (omega arith), a, b) (max-zero (largestBelow us cells r))
+          rw (e, no-byte us r i small (omega arith), a, b) (max-zero (largestBelow us cells r))
 
   pub largest-all : belowBy strides (packed us r) cells r 4 ≡ largestBelow us cells r
   largest-all =
@@ -116,11 +116,11 @@ module _ (us strides cells : List ℕ) (r : ℕ) (small : Small us) (known : Str
     where
       some : (i : ℕ) → 0 < packed us r / 256 ^ i % 256 → Dec (i < length us) → 0 < getD strides i 0
       some i p (yes l) = rw (known .stride-at i l) (rows-pos (drop (length us - i) us))
-      some i p (no l) = absurd (omega (arith, no-byte i (omega arith)))
+      some i p (no l) = absurd (omega (arith, no-byte us r i small (omega arith)))
 
       before : (i : ℕ) → 0 < packed us r / 256 ^ i % 256 → Dec (i < length us) → getD strides i 0 ≤ r
       before i p (yes l) = has-unit r (getD strides i 0) (getD us (length us - suc i) 0 + 1) (rw (byte-is i l) at p)
-      before i p (no l) = absurd (omega (arith, no-byte i (omega arith)))
+      before i p (no l) = absurd (omega (arith, no-byte us r i small (omega arith)))
 
 -- ---- the four items
 

@@ -1,4 +1,4 @@
--- The largest cell one unit below, by the units in a row's word. Only the code's own functions cite this, no promise.
+-- The rows each item takes a unit, which callers pass on, and the largest cell one unit below, by the units in a row's word.
 use mathlib.Core.Path.{_≡_}
 use mathlib.Core.Bool.{cond}
 use mathlib.Core.List.{List}

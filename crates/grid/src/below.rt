@@ -9,7 +9,7 @@ ghost use Rattle.grid.specs.Below.{Strides, belowBy, Under, RowAt};
 use super::wide;
 
 // How many rows each item takes a unit, the last item first.
-pub(crate) fn strides_of(units: &[u16]) -> [usize; 4]
+pub fn strides_of(units: &[u16]) -> [usize; 4]
     requires { ⌜ Small (now units) ⌝ }
     ensures { λ r. ⌜ Strides (now (units .entry)) r ⌝ }
 {

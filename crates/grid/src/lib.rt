@@ -16,7 +16,7 @@ mod rise;
 mod units;
 
 use below::largest_below;
-use below::strides_of;
+pub use below::strides_of;
 use full::copy_given;
 pub use units::all_units;
 

@@ -1,22 +1,24 @@
 -- The way down through the rows that a row holds: from one that can pay to the next. Assumes nothing.
 use mathlib.Core.Path.{_≡_, refl, sym, ap, subst, _∙_}
-use mathlib.Core.Bool.{Bool, true, false, _&&_, and-eq-true-iff}
+use mathlib.Core.Bool.{Bool, true, false, _&&_}
 use mathlib.Core.List.{List, [], _∷_}
-use Prim.Native.Nat.{ℕ, zero, suc, _+_, _-_, _*_, _/_, _%_, _≤_, _<_}
+use Prim.Native.Nat.{ℕ, zero, suc, _+_, _-_, _*_, _/_, _%_, _^_, _≤_, _<_}
 use native.Mathlib.Nat.{add-zero, div-add-mod', div-div-eq-div-mul, div-eq-of-lt, div-mul-le-self, div-one, mod-eq-of-lt, mod-le, mod-lt, mod-mod, mod-one, mul-add-div-right, mul-add-mod-self-right, mul-assoc, mul-comm, mul-le-mul-right, mul-one}
 use native.Mathlib.Decide.{decLt, ℕ-discrete}
 use native.Mathlib.Omega.{arith}
-use borrow.Author.Tests.{lt-ltb, ltb-true, leb-true, leb-false}
 use mir.Facts.{and-yes, yes-and}
-use lib.Dec.{T, leb, ltb, leb→le, le→leb}
+use lib.Dec.{T, leb, leb→le, le→leb}
 use lib.ListN.{length, getD, take, drop}
 use Rattle.grid.specs.Rows.{rowsOf}
-use Rattle.grid.proofs.RowLaws.{rest-mul, rows-pos, rows-cons, rows-drop, rows-end}
+use Rattle.grid.proofs.RowLaws.{rest-mul, rows-pos, rows-cons, rows-end}
+use Rattle.grid.proofs.UnitLaws.{packed-lane}
+use Rattle.grid.proofs.BelowLaws.{no-byte}
 use Rattle.exchange.specs.Forms.{holdsRow}
 use Rattle.exchange.proofs.TableLaws.{row-self}
 use Rattle.exchange.proofs.TablePlan.RowUnits.{holds-rises}
-use Rattle.grid.specs.Units.{unitOf}
-use Rattle.held.specs.Down.{Open, CapsRise, Down}
+use Rattle.grid.specs.Units.{unitOf, Small, RowUnits}
+use Rattle.grid.specs.Below.{Strides}
+use Rattle.held.specs.Down.{Open, CapsRise, Down, OneLess}
 use Rattle.held.proofs.HoldLaws.{holds-cons}
 
 -- ---- rows by the items before one, that item, and those after it
@@ -108,7 +110,7 @@ module _ (us : List ℕ) (j : ℕ) (more : j < length us) where
         (rw (up y, up a, less) (x .0), rw less (x .1))
 
     -- where row b holds row a, it holds row y
-    pub less-held : T (holdsRow us a b) → T (holdsRow us y b)
+    less-held : T (holdsRow us a b) → T (holdsRow us y b)
     less-held t =
         let p = parts a b t in
         whole y b
@@ -119,7 +121,7 @@ module _ (us : List ℕ) (j : ℕ) (more : j < length us) where
         })
 
     -- row y holds each row that row b holds and that has fewer units of item j than row a, and of the items before it those of row a
-    pub less-holds : (r : ℕ) → T (holdsRow us r b) → r / rowsOf (drop j us) ≡ a / rowsOf (drop j us)
+    less-holds : (r : ℕ) → T (holdsRow us r b) → r / rowsOf (drop j us) ≡ a / rowsOf (drop j us)
         → r / rowsOf (drop (j + 1) us) < a / rowsOf (drop (j + 1) us) → T (holdsRow us r y)
     less-holds r t e l =
         let n = getD us j 0 + 1 in
@@ -146,27 +148,6 @@ div-rises x y s p l = go (decLt (y / s) (x / s))
         absurd (omega (arith, div-add-mod' x s, div-add-mod' y s, mod-lt y p))
     go (no m) = omega arith
 
--- the units of an item are no more rows than the row has
-pub unit-rows : (r s n : ℕ) → r / s % n * s ≤ r
-unit-rows r s n = let m : r / s % n * s ≤ r / s * s = mul-le-mul-right s (mod-le (r / s) n) in omega (arith, div-mul-le-self r s)
-
--- ---- the test of an item
-
-pub positive : (x : ℕ) → (x ≡ 0 → ⊥) → 0 < x
-positive zero n = absurd (n refl)
-positive (suc x) n = omega arith
-
-pub less-none : (has need cap : ℕ) → has ≡ 0 → false ≡ (ltb 0 has && leb need cap)
-less-none has need cap z = rw z
-
-pub less-tried : (has need cap : ℕ) → (has ≡ 0 → ⊥) → leb need cap ≡ (ltb 0 has && leb need cap)
-less-tried has need cap n = rw (lt-ltb 0 has (positive has n))
-
-pub less-passes : (has need cap : ℕ) → true ≡ (ltb 0 has && leb need cap) → (0 < has) × (need ≤ cap)
-less-passes has need cap e =
-    let x = and-eq-true-iff (ltb 0 has) (leb need cap) .0 (sym e) in
-    (ltb-true 0 has (x .0), leb-true need cap (x .1))
-
 -- ---- the way down from row a, from the last item to the first
 
 -- no open row below row a has its units of the items before j; row has those units, and of the items from j on those of row b
@@ -176,17 +157,18 @@ pub record Descending (us caps : List ℕ) (b need a j stride row : ℕ) : Type 
   pub row-is : row ≡ a / stride * stride + b % stride
   pub passed : (r : ℕ) → r < a → r / stride ≡ a / stride → Open us caps b need r → ⊥
 
-pub descending-start : (us caps : List ℕ) (b need a : ℕ) → Descending us caps b need a (length us) 1 a
+pub descending-start : (us caps : List ℕ) (b need a : ℕ) → Descending us caps b need a (length us - 0) 1 a
 descending-start us caps b need a =
+    let all : length us - 0 ≡ length us = omega arith in
     record {
       within = omega arith;
-      stride-is = sym (rows-end us);
+      stride-is = rw all (sym (rows-end us));
       row-is = omega (arith, div-one a, mod-one b);
       passed = λ r l e o. omega (arith, div-one a, div-one r);
     }
 
 -- all items are tried
-pub descending-none : (us caps : List ℕ) (b need a j stride row : ℕ) → Descending us caps b need a j stride row → j ≡ 0 → a < rowsOf us
+descending-none : (us caps : List ℕ) (b need a j stride row : ℕ) → Descending us caps b need a j stride row → j ≡ 0 → a < rowsOf us
     → Down us caps b need a 0
 descending-none us caps b need a j stride row h z l =
     let all : stride ≡ rowsOf us = h .stride-is ∙ rw z in
@@ -206,7 +188,7 @@ module _ {us caps : List ℕ} {b need a j stride row : ℕ} (h : Descending us c
   before : j - 1 < length us
   before = omega (arith, h .within)
 
-  pub stride-at : stride ≡ rowsOf (drop (j - 1 + 1) us)
+  stride-at : stride ≡ rowsOf (drop (j - 1 + 1) us)
   stride-at = rw one (h .stride-is)
 
   stride-pos : 0 < stride
@@ -216,30 +198,12 @@ module _ {us caps : List ℕ} {b need a j stride row : ℕ} (h : Descending us c
   unit-is : (r : ℕ) → unitOf us (j - 1) r ≡ r / stride % (getD us (j - 1) 0 + 1)
   unit-is r = rw (← stride-at)
 
-  pub stride-next : stride * (getD us (j - 1) 0 + 1) ≡ rowsOf (drop (j - 1) us)
+  stride-next : stride * (getD us (j - 1) 0 + 1) ≡ rowsOf (drop (j - 1) us)
   stride-next = sym (rows-cons (j - 1) us before ∙ rw (← stride-at))
-
-  pub stride-few : rowsOf us ≤ 128 → stride * (getD us (j - 1) 0 + 1) ≤ 128
-  stride-few few = omega (arith, stride-next, rows-drop (j - 1) us)
-
-  pub full-rows : (full : ℕ) → full ≡ unitOf us (j - 1) b → full * stride ≤ b
-  full-rows full f =
-      let n = getD us (j - 1) 0 + 1 in
-      let i : full * stride ≡ b / stride % n * stride = ap (λ (x : ℕ). x * stride) (f ∙ unit-is b) in
-      omega (arith, unit-rows b stride n)
-
-  pub row-high : row ≤ a + b
-  row-high = omega (arith, h .row-is, div-mul-le-self a stride, mod-le b stride)
 
   module _ (has : ℕ) (e : has ≡ unitOf us (j - 1) a) where
     has-rows : has * stride ≡ a / stride % (getD us (j - 1) 0 + 1) * stride
     has-rows = ap (λ (x : ℕ). x * stride) (e ∙ unit-is a)
-
-    pub row-low : has * stride ≤ row
-    row-low =
-        let n = getD us (j - 1) 0 + 1 in
-        let m : a / stride % n * stride ≤ a / stride * stride = mul-le-mul-right stride (mod-le (a / stride) n) in
-        omega (arith, h .row-is, has-rows)
 
     -- the row with one unit less of the item
     module _ (unit : 0 < has) where
@@ -252,10 +216,10 @@ module _ {us caps : List ℕ} {b need a j stride row : ℕ} (h : Descending us c
           let m : (q - 1 + 1) * stride ≡ q * stride = ap (λ (x : ℕ). x * stride) all in
           (omega (arith, h .row-is), by-digit (row - stride) stride (q - 1) (b % stride) (omega (arith, h .row-is)) (mod-lt b stride-pos))
 
-      pub less-low : stride ≤ row
+      less-low : stride ≤ row
       less-low = less-is .0
 
-      pub less-below : row - stride < a
+      less-below : row - stride < a
       less-below = omega (arith, h .row-is, less-low, div-add-mod' a stride, mod-lt b stride-pos)
 
       less-divided : (row - stride) / rowsOf (drop (j - 1 + 1) us) ≡ a / rowsOf (drop (j - 1 + 1) us) - 1
@@ -265,7 +229,7 @@ module _ {us caps : List ℕ} {b need a j stride row : ℕ} (h : Descending us c
       less-back = rw (← stride-at) (less-is .1 .1)
 
       -- it is the next row down, where it can pay
-      pub descending-found : T (holdsRow us a b) → need ≤ getD caps (row - stride) 0 → Down us caps b need a (row - stride + 1)
+      descending-found : T (holdsRow us a b) → need ≤ getD caps (row - stride) 0 → Down us caps b need a (row - stride + 1)
       descending-found t pays =
           let back : row - stride + 1 - 1 ≡ row - stride = omega arith in
           record {
@@ -288,48 +252,142 @@ module _ {us caps : List ℕ} {b need a j stride row : ℕ} (h : Descending us c
               let k : r % stride ≤ b % stride = rw stride-at (round-le (drop (j - 1 + 1) us) r b (parts us (j - 1) before r b (o .held) .after)) in
               omega (arith, div-add-mod' r stride, div-add-mod' y stride, less-is .1 .1)
 
-    -- it is not: no row with fewer units of the item can pay
-    module _ (rise : CapsRise us caps) (full row′ stride′ : ℕ) (f : full ≡ unitOf us (j - 1) b) (few : a < rowsOf us) (t : false ≡ (ltb 0 has && leb need (getD caps (row - stride) 0)))
-        (next : row′ ≡ row + full * stride - has * stride) (wide : stride′ ≡ stride * (getD us (j - 1) 0 + 1)) where
-      fewer : (r : ℕ) → r < a → r / stride < a / stride → r / stride′ ≡ a / stride′ → Open us caps b need r → ⊥
-      fewer r l m same o = go (decLt 0 has)
+    -- the row with the units of row b of the item
+    module _ (t : T (holdsRow us a b)) (full : ℕ) (f : full ≡ unitOf us (j - 1) b) where
+      unit-held : has ≤ full
+      unit-held = rw (e, f) (parts us (j - 1) before a b t .here)
+
+      module _ (row′ stride′ : ℕ) (next : row′ ≡ row + (full - has) * stride) (wide : stride′ ≡ rowsOf (drop (j - 1) us)) where
+        abbrev n : ℕ
+        n = getD us (j - 1) 0 + 1
+
+        widened : stride′ ≡ stride * n
+        widened = wide ∙ sym stride-next
+
+        moved : row′ ≡ a / stride′ * stride′ + b % stride′
+        moved =
+            let g : (a / stride / n * n + a / stride % n) * stride ≡ a / stride * stride = ap (λ (x : ℕ). x * stride) (div-add-mod' (a / stride) n) in
+            let i : full * stride ≡ b / stride % n * stride = ap (λ (x : ℕ). x * stride) (f ∙ unit-is b) in
+            let all : full - has + has ≡ full = omega (arith, unit-held) in
+            let m : (full - has + has) * stride ≡ full * stride = ap (λ (x : ℕ). x * stride) all in
+            rw (widened, mod-split b stride (getD us (j - 1) 0) stride-pos, ← div-div-eq-div-mul a stride n)
+            (omega (arith, next, h .row-is, has-rows))
+
+        row-high : row′ ≤ a + b
+        row-high = omega (arith, moved, div-mul-le-self a stride′, mod-le b stride′)
+
+        -- the row with one unit less cannot pay, so no row with fewer units of the item can
+        module _ (rise : CapsRise us caps) (few : a < rowsOf us) (poor : 0 < has → getD caps (row - stride) 0 < need) where
+          fewer : (r : ℕ) → r < a → r / stride < a / stride → r / stride′ ≡ a / stride′ → Open us caps b need r → ⊥
+          fewer r l m same o = go (decLt 0 has)
+            where
+              above : r / stride / n ≡ a / stride / n
+              above = div-div-eq-div-mul r stride n ∙ (rw widened at same) ∙ sym (div-div-eq-div-mul a stride n)
+
+              go : Dec (0 < has) → ⊥
+              go (yes p) =
+                  let holds : T (holdsRow us r (row - stride)) =
+                  less-holds us (j - 1) before a b (row - stride) (omega (arith, e)) (less-divided p) (less-back p) r (o .held)
+                  (rw (← wide) same) (rw (← stride-at) m) in
+                  omega (arith, rise .cap-rises r (row - stride) (omega arith) (omega (arith, less-below p)) holds, poor p, o .pays)
+              go (no p) =
+                  let g : r / stride / n * n ≡ a / stride / n * n = ap (λ (x : ℕ). x * n) above in
+                  omega (arith, e, unit-is a, div-add-mod' (r / stride) n, div-add-mod' (a / stride) n)
+
+          descending-next : Descending us caps b need a (j - 1) stride′ row′
+          descending-next =
+              record {
+                within = omega (arith, h .within);
+                stride-is = wide;
+                row-is = moved;
+                passed = λ r l same o. go r l same o (ℕ-discrete (r / stride) (a / stride));
+              }
+            where
+              go : (r : ℕ) → r < a → r / stride′ ≡ a / stride′ → Open us caps b need r → Dec (r / stride ≡ a / stride) → ⊥
+              go r l same o (yes q) = h .passed r l q o
+              go r l same o (no q) = fewer r l (omega (arith, div-rises r a stride stride-pos (omega arith))) same o
+
+-- ---- the items as the code tries them: i counts those that are tried
+
+pub first-byte : (p : ℕ) → p % 256 ≡ p / 256 ^ 0 % 256
+first-byte p = rw (div-one p)
+
+module _ {us strides held caps : List ℕ} {a b need : ℕ}
+    (pre : Small us × Strides us strides × RowUnits us held (rowsOf us) × CapsRise us caps × (a < rowsOf us) × (b < rowsOf us) × Open us caps b need a) where
+  -- the units of the next item, by a row's word
+  unit-at : (r i : ℕ) → r < rowsOf us → i < length us → getD held r 0 / 256 ^ i % 256 ≡ unitOf us (length us - i - 1) r
+  unit-at r i l m =
+      let e : length us - suc (length us - i - 1) ≡ i = omega arith in
+      rw (pre .2 .word-at r l) (rw e at (packed-lane us (length us - i - 1) r (pre .0) (omega arith)))
+
+  item-of : (i : ℕ) → 0 < getD held a 0 / 256 ^ i % 256 → i < length us
+  item-of i u = go (decLt i (length us))
+    where
+      go : Dec (i < length us) → i < length us
+      go (yes l) = l
+      go (no l) = absurd (omega (arith, u, ap (λ (w : ℕ). w / 256 ^ i % 256) (pre .2 .word-at a (pre .4)), no-byte us a i (pre .0) (omega arith)))
+
+  module _ (i : ℕ) {stride row has : ℕ} (h : Descending us caps b need a (length us - i) stride row) (e : has ≡ getD held a 0 / 256 ^ i % 256) where
+    has-is : i < length us → has ≡ unitOf us (length us - i - 1) a
+    has-is l = e ∙ unit-at a i (pre .4) l
+
+    some-item : 0 < has → i < length us
+    some-item u = item-of i (rw (← e) u)
+
+    pub level-asks : (0 < has → stride ≤ row) × (0 < has → row - stride < 128)
+    level-asks = (
+      λ u. let l = some-item u in less-low h (omega arith) has (has-is l) u,
+      λ u. let l = some-item u in omega (arith, less-below h (omega arith) has (has-is l) u, pre .4, pre .2 .few),
+    )
+
+    module _ {k : ℕ} (tried : OneLess caps row stride has need k) where
+      pub level-found : 0 < k → Down us caps b need a k
+      level-found p =
+          let x = tried .found p in
+          let l = some-item (x .0) in
+          rw (x .2) (descending-found h (omega arith) has (has-is l) (x .0) (pre .6 .held) (x .1))
+
+      -- the last item to try
+      pub level-none : k ≤ 0 → length us < i + 2 → Down us caps b need a 0
+      level-none z last = go (decLt i (length us))
         where
-          n : ℕ
-          n = getD us (j - 1) 0 + 1
+          go : Dec (i < length us) → Down us caps b need a 0
+          go (yes l) =
+              descending-none _ _ _ _ _ _ _ _
+              (descending-next h (omega arith) has (has-is l) (pre .6 .held) (unitOf us (length us - i - 1) b) refl _ _ refl refl (pre .3) (pre .4) (tried .poor z))
+              (omega arith) (pre .4)
+          go (no l) = descending-none _ _ _ _ _ _ _ _ h (omega arith) (pre .4)
 
-          above : r / stride / n ≡ a / stride / n
-          above = div-div-eq-div-mul r stride n ∙ (rw wide at same) ∙ sym (div-div-eq-div-mul a stride n)
-
-          go : Dec (0 < has) → ⊥
-          go (yes p) =
-              let poor : getD caps (row - stride) 0 < need = leb-false _ _ (sym (rw (lt-ltb 0 has p) at t)) in
-              let holds : T (holdsRow us r (row - stride)) =
-              less-holds us (j - 1) before a b (row - stride) (omega (arith, e)) (less-divided p) (less-back p) r (o .held)
-              (rw (← stride-next, ← wide) same) (rw (← stride-at) m) in
-              omega (arith, rise .cap-rises r (row - stride) (omega arith) (omega (arith, less-below p)) holds, o .pays)
+      pub level-last : length us < i + 2 → Down us caps b need a k
+      level-last last = go (decLt 0 k)
+        where
+          go : Dec (0 < k) → Down us caps b need a k
+          go (yes p) = level-found p
           go (no p) =
-              let g : r / stride / n * n ≡ a / stride / n * n = ap (λ (x : ℕ). x * n) above in
-              omega (arith, e, unit-is a, div-add-mod' (r / stride) n, div-add-mod' (a / stride) n)
+              let z : k ≡ 0 = omega arith in
+              rw z (level-none (omega arith) last)
 
-      pub descending-next : Descending us caps b need a (j - 1) stride′ row′
-      descending-next =
-          record {
-            within = omega (arith, h .within);
-            stride-is = wide ∙ stride-next;
-            row-is = moved;
-            passed = λ r l same o. go r l same o (ℕ-discrete (r / stride) (a / stride));
-          }
-        where
-          n : ℕ
-          n = getD us (j - 1) 0 + 1
+    -- there is an item more
+    module _ {full : ℕ} (more : i + 1 < length us) (f : full ≡ getD held b 0 / 256 ^ i % 256) where
+      full-is : full ≡ unitOf us (length us - i - 1) b
+      full-is = f ∙ unit-at b i (pre .5) (omega arith)
 
-          moved : row′ ≡ a / stride′ * stride′ + b % stride′
-          moved =
-              let g : (a / stride / n * n + a / stride % n) * stride ≡ a / stride * stride = ap (λ (x : ℕ). x * stride) (div-add-mod' (a / stride) n) in
-              let i : full * stride ≡ b / stride % n * stride = ap (λ (x : ℕ). x * stride) (f ∙ unit-is b) in
-              rw (wide, mod-split b stride (getD us (j - 1) 0) stride-pos, ← div-div-eq-div-mul a stride n)
-              (omega (arith, next, h .row-is, has-rows, row-low))
+      own : has ≡ unitOf us (length us - i - 1) a
+      own = has-is (omega arith)
 
-          go : (r : ℕ) → r < a → r / stride′ ≡ a / stride′ → Open us caps b need r → Dec (r / stride ≡ a / stride) → ⊥
-          go r l same o (yes q) = h .passed r l q o
-          go r l same o (no q) = fewer r l (omega (arith, div-rises r a stride stride-pos (omega arith))) same o
+      stride-known : getD strides (i + 1) 0 ≡ rowsOf (drop (length us - i - 1) us)
+      stride-known =
+          let s : length us - i - 1 ≡ length us - (i + 1) = omega arith in
+          rw s (pre .1 .stride-at (i + 1) more)
+
+      pub level-fits : (has ≤ full) × (row + (full - has) * stride < 2 ^ 64)
+      level-fits = (
+        unit-held h (omega arith) has own (pre .6 .held) full full-is,
+        omega (arith, row-high h (omega arith) has own (pre .6 .held) full full-is _ _ refl stride-known, pre .4, pre .5, pre .2 .few),
+      )
+
+      pub level-next : {k row′ : ℕ} → OneLess caps row stride has need k → k ≤ 0 → row′ ≡ row + (full - has) * stride
+          → Descending us caps b need a (length us - (i + 1)) (getD strides (i + 1) 0) row′
+      level-next tried z next =
+          let s : length us - (i + 1) ≡ length us - i - 1 = omega arith in
+          rw s (descending-next h (omega arith) has own (pre .6 .held) full full-is _ _ next stride-known (pre .3) (pre .4) (tried .poor z))

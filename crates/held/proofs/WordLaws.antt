@@ -1,16 +1,16 @@
--- Words of rows: compared byte by byte they compare the units of the rows, and byte by byte they give them. Assumes nothing.
+-- Words of rows: compared byte by byte they compare the units of the rows. Assumes nothing.
 use mathlib.Core.Path.{_≡_, refl, sym, ap, _∙_}
 use mathlib.Core.Bool.{Bool, true, false, _&&_}
 use mathlib.Core.List.{List, [], _∷_}
 use Prim.Native.Nat.{ℕ, zero, suc, _+_, _-_, _*_, _/_, _%_, _^_, _≤_, _<_}
-use native.Mathlib.Nat.{add-mul-div-right, add-mul-mod-self-right, div-div-eq-div-mul, div-lt-iff-lt-mul, div-one, mod-eq-of-lt, mul-assoc, pow-suc}
+use native.Mathlib.Nat.{add-mul-div-right, add-mul-mod-self-right, div-lt-iff-lt-mul, mod-eq-of-lt, mul-assoc, pow-suc}
 use native.Mathlib.Omega.{arith}
 use borrow.Author.Tests.{le-leb, lt-leb}
 use lib.Dec.{leb}
 use lib.ListN.{length}
 use Rattle.grid.specs.Rows.{rowsOf}
-use Rattle.grid.specs.Units.{unitOf, packed, Small}
-use Rattle.grid.proofs.UnitLaws.{small-drop, units-lt, packed-small, packed-lane}
+use Rattle.grid.specs.Units.{packed, Small}
+use Rattle.grid.proofs.UnitLaws.{small-drop, units-lt, packed-small}
 use Rattle.exchange.specs.Forms.{holdsRow}
 use Rattle.held.specs.Words.{holdsWord}
 
@@ -94,29 +94,3 @@ pub held-word : (us : List ℕ) (a b : ℕ) → Small us → holdsWord 4 (packed
 held-word us a b s =
     let e : length us + (4 - length us) ≡ 4 = omega (arith, s .items) in
     rw (← e) (word-more (length us) (4 - length us) (packed us a) (packed us b) (packed-small us a s) ∙ word-row us a b s)
-
--- ---- the bytes of a word, from the last item to the first
-
--- p is the word of row r without the bytes of the items from j on
-pub record Bytes (us : List ℕ) (r j p : ℕ) : Type 0 where
-  pub within : j ≤ length us
-  pub word : p ≡ packed us r / 256 ^ (length us - j)
-
-pub bytes-start : (us : List ℕ) (r p : ℕ) → p ≡ packed us r → Bytes us r (length us) p
-bytes-start us r p e =
-    let z : length us - length us ≡ 0 = omega arith in
-    record { within = omega arith; word = rw (z, e) (sym (div-one (packed us r))) }
-
-module _ {us : List ℕ} {r j p : ℕ} (h : Bytes us r j p) (some : 0 < j) where
-  pub bytes-unit : Small us → p % 256 ≡ unitOf us (j - 1) r
-  bytes-unit s =
-      let e : length us - suc (j - 1) ≡ length us - j = omega arith in
-      rw (h .word, ← e) (packed-lane us (j - 1) r s (omega (arith, h .within)))
-
-  pub bytes-next : Bytes us r (j - 1) (p / 256)
-  bytes-next =
-      let e : length us - (j - 1) ≡ suc (length us - j) = omega (arith, h .within) in
-      record {
-        within = omega (arith, h .within);
-        word = rw (h .word, e, pow-suc 256 (length us - j)) (div-div-eq-div-mul (packed us r) (256 ^ (length us - j)) 256);
-      }

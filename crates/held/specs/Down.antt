@@ -1,5 +1,6 @@
 -- The way down through the rows that may take an offer of a row.
-use Prim.Native.Nat.{ℕ, _-_, _≤_, _<_}
+use mathlib.Core.Path.{_≡_}
+use Prim.Native.Nat.{ℕ, _+_, _-_, _≤_, _<_}
 use mathlib.Core.List.{List}
 use lib.Dec.{T}
 use lib.ListN.{getD}
@@ -20,3 +21,8 @@ pub record Down (us caps : List ℕ) (b need a k : ℕ) : Type 0 where
   pub lower : k ≤ a
   pub opens : 0 < k → Open us caps b need (k - 1)
   pub passed : (r : ℕ) → k ≤ r → r < a → Open us caps b need r → ⊥
+
+-- row k - 1 has one unit less of an item; k is 0 where there is no unit to take away or that row cannot pay
+pub record OneLess (caps : List ℕ) (row stride has need k : ℕ) : Type 0 where
+  pub found : 0 < k → (0 < has) × (need ≤ getD caps (row - stride) 0) × (k ≡ row - stride + 1)
+  pub poor : k ≤ 0 → 0 < has → getD caps (row - stride) 0 < need

@@ -1,60 +1,75 @@
 // The way down through the rows that may take an offer: those that the offering row holds and that can pay what it needs.
 ghost use mathlib.Core.Path.{_≡_};
-ghost use mathlib.Core.Bool.{_&&_};
-ghost use Prim.Native.Nat.{_-_, _<_, _≤_};
-ghost use lib.Dec.{leb, ltb};
-ghost use lib.ListN.{getD};
+ghost use Prim.Native.Nat.{_+_, _*_, _-_, _%_, _^_, _<_, _≤_};
 ghost use Rattle.grid.specs.Rows.{rowsOf};
 ghost use Rattle.grid.specs.Units.{Small, RowUnits};
-ghost use Rattle.held.specs.Down.{Open, CapsRise, Down};
+ghost use Rattle.grid.specs.Below.{Strides};
+ghost use Rattle.held.specs.Down.{Open, CapsRise, Down, OneLess};
 use super::words::low_byte;
 
-fn wide16(x: u16) -> usize
-    ensures { λ r. ⌜ (r ≡ x) × (r < 65536) ⌝ }
+// The row with one unit less of the last item of a word, plus 1; 0 where there is no unit to take away or that row cannot pay.
+fn one_less(caps: &[u64; 128], row: usize, stride: usize, word: u32, need: u64) -> usize
+    requires { ⌜ (0 < word % 256 → stride ≤ row) × (0 < word % 256 → row - stride < 128) ⌝ }
+    ensures { λ k. ⌜ OneLess (now (caps .entry)) row stride (word % 256) need k ⌝ }
 {
-    x as usize
+    if word % 256 == 0 {
+        return 0;
+    }
+    if need <= caps[row - stride] {
+        return row - stride + 1;
+    }
+    0
 }
 
-// Whether there is a unit to take away, and the row with one unit less can pay.
-fn pays_less(caps: &[u64; 128], row: usize, stride: usize, has: usize, need: u64) -> bool
-    requires { ⌜ (0 < has → stride ≤ row) × (0 < has → row - stride < 128) ⌝ }
-    ensures { λ r. ⌜ r ≡ (ltb 0 has && leb need (getD (now (caps .entry)) (row - stride) 0)) ⌝ }
+// The row with the units of the last item of one word put back to those of another.
+fn put_back(row: usize, stride: usize, less: u32, more: u32) -> usize
+    requires { ⌜ (less % 256 ≤ more % 256) × (row + (more % 256 - less % 256) * stride < 2 ^ 64) ⌝ }
+    ensures { λ r. ⌜ r ≡ row + (more % 256 - less % 256) * stride ⌝ }
 {
-    if has == 0 {
-        return false;
-    }
-    need <= caps[row - stride]
+    row + (low_byte(more) - low_byte(less)) * stride
 }
 
 // From row a the next row down that row b holds and that can pay, plus 1; 0 where there is none. Tries each item, from the last to the first:
 // one unit less of it than row a has, and of the items after it the units of row b. Caps do not fall as units are added, so where that row
-// cannot pay, none with fewer units of the item can.
+// cannot pay, none with fewer units of the item can. Written out item by item: a processor predicts a test of each item better than one test
+// that a loop repeats.
 pub fn next_down(
     units: &[u16],
+    strides: &[usize; 4],
     held: &[u32; 128],
     caps: &[u64; 128],
     a: usize,
     b: usize,
     need: u64,
 ) -> usize
-    requires { ⌜ Small (now units) × RowUnits (now units) (now held) (rowsOf (now units)) × CapsRise (now units) (now caps) × (a < rowsOf (now units)) × (b < rowsOf (now units)) × Open (now units) (now caps) b need a ⌝ }
+    requires { ⌜ Small (now units) × Strides (now units) (now strides) × RowUnits (now units) (now held) (rowsOf (now units)) × CapsRise (now units) (now caps) × (a < rowsOf (now units)) × (b < rowsOf (now units)) × Open (now units) (now caps) b need a ⌝ }
     ensures { λ r. ⌜ Down (now (units .entry)) (now (caps .entry)) b need a r ⌝ }
 {
-    let mut p = held[a];
-    let mut q = held[b];
-    let mut row = a;
-    let mut stride: usize = 1;
-    let mut j = units.len();
-    while 0 < j {
-        j -= 1;
-        let has = low_byte(p);
-        if pays_less(caps, row, stride, has, need) {
-            return row - stride + 1;
-        }
-        row = row + low_byte(q) * stride - has * stride;
-        stride = stride * (wide16(units[j]) + 1);
-        p = p / 256;
-        q = q / 256;
+    let less = held[a];
+    let more = held[b];
+    let found = one_less(caps, a, 1, less, need);
+    if 0 < found {
+        return found;
     }
-    0
+    if units.len() < 2 {
+        return 0;
+    }
+    let row = put_back(a, 1, less, more);
+    let found = one_less(caps, row, strides[1], less / 256, need);
+    if 0 < found {
+        return found;
+    }
+    if units.len() < 3 {
+        return 0;
+    }
+    let row = put_back(row, strides[1], less / 256, more / 256);
+    let found = one_less(caps, row, strides[2], less / 65536, need);
+    if 0 < found {
+        return found;
+    }
+    if units.len() < 4 {
+        return 0;
+    }
+    let row = put_back(row, strides[2], less / 65536, more / 65536);
+    one_less(caps, row, strides[3], less / 16777216, need)
 }

@@ -1,27 +1,31 @@
--- The count of steps. Assumes nothing.
-use mathlib.Core.Path.{_≡_, sym, _∙_}
+-- The count of steps: after each step the arrays say what each row needs with so many steps. A row that is reached needs its floor with one step
+-- more, so only the rows reached in the last two steps offer something new, and only rows that are not reached take it. Assumes nothing.
+use mathlib.Core.Path.{_≡_, refl, sym, ap, _∙_}
 use mathlib.Core.Bool.{cond}
-use mathlib.Core.Logic.{⊎-elim}
+use mathlib.Core.Logic.{_⊎_, ⊎-elim, inl, inr}
 use mathlib.Core.List.{List}
-use Prim.Native.Nat.{ℕ, suc, _+_, _≤_, _<_}
+use Prim.Native.Nat.{ℕ, suc, _+_, _-_, _≤_, _<_}
 use native.Mathlib.Decide.{ℕ-discrete, decLt}
 use native.Mathlib.Numerals.{add-one}
 use native.Mathlib.Omega.{arith}
-use borrow.Author.Tests.{eq-eqb, ne-eqb}
-use lib.Dec.{eqb, leb→le, le→leb}
-use lib.ListN.{length, getD, set, length-set, replicate, length-replicate}
+use borrow.Author.Tests.{eq-eqb, ne-eqb, lt-ltb, le-ltb}
+use lib.Dec.{T, ltb, eqb, leb→le, le→leb}
+use lib.ListN.{length, getD, set, length-set, replicate, length-replicate, getD-replicate}
+use lib.Seq.{getD-set-same, getD-set-other}
 use Rattle.grid.specs.Rows.{rowsOf}
+use Rattle.grid.specs.Below.{Strides}
 use Rattle.exchange.specs.Work.{Work}
-use Rattle.exchange.specs.Search.{leastFloor, need, count}
+use Rattle.exchange.specs.Search.{follows, leastFloor, need, count}
 use Rattle.exchange.proofs.TablePlan.Count.{count-is, settled-none}
 use Rattle.exchange.proofs.TableLaws.{row-start}
-use Rattle.exchange.proofs.TablePlan.Floor.{floor-is-least, floor-ext}
-use Rattle.exchange.proofs.TablePlan.Need.{follows↔, need-le, need-own}
+use Rattle.exchange.proofs.TablePlan.Floor.{IsLeast, floor-is-least}
+use Rattle.exchange.proofs.TablePlan.Need.{follows↔, need-le, need-own, need-never-rises}
 use Rattle.held.specs.Down.{CapsRise}
-use Rattle.search.specs.Layers.{mark, never, rowsWork, Searchable, sumAt, layer, Among, CanStep, Stepped, Arrival, Begun, Needs, needRead, Says, Counted}
+use Rattle.search.specs.Layers.{mark, never, rowsWork, Searchable, Front, front, rowAt, floorOf, needAt, OffersTo, Best, Notes, Kept, Same, New, CanStep, Stepped, Arrival, Begun, needRead, Says, Counted}
 use Rattle.search.specs.declared.Terms.{Terms}
+use Rattle.search.specs.declared.layers.Window.{Window}
 use Rattle.search.proofs.ReadLaws.{read-before, read-then, read-after}
-use Rattle.search.proofs.LayerLaws.{Searched, one-there, one-other, searched-start, searched-next, sums-least, falls, sums-same, noted-sum, noted-kept}
+use Rattle.search.proofs.ListLaws.{below-le, below-none, below-more}
 
 module _ (w : Work) (most : ℕ) where
   counted-at : (j : ℕ) → 0 < j → j ≤ most → need w mark j 0 ≤ 0 → ((i : ℕ) → i < j → 0 < need w mark i 0) → j ≡ count w mark most
@@ -38,284 +42,462 @@ module _ (w : Work) (most : ℕ) where
       go (yes l) = absurd (omega (arith, none (count w mark most) (omega arith), leb→le (need w mark (count w mark most) 0) 0 (count-is w mark most .passes (omega arith))))
       go (no n) = omega (arith, count-is w mark most .within)
 
--- ---- the test whether a changed row ends the search
+-- ---- whether a row of the window ends the search
 
-module _ {caps floors sums changed : List ℕ} {i b : ℕ} (e : b ≡ getD changed i 0) where
-  pub arrival-here : {n : ℕ} → i < n → sumAt sums b ≤ getD caps 0 0 → getD floors b 0 ≡ 0 → Arrival caps floors sums changed n
-  arrival-here l p q = record { index = i; below = l; affords = rw (← e) p; free = rw (← e) q }
-
-  pub arrival-passed : (Arrival caps floors sums changed i → ⊥) → (sumAt sums b ≤ getD caps 0 0 → getD floors b 0 ≡ 0 → ⊥)
-      → Arrival caps floors sums changed (i + 1) → ⊥
-  arrival-passed none not x = go (ℕ-discrete (x .index) i)
-    where
-      go : Dec (x .index ≡ i) → ⊥
-      go (yes q) = not (rw (e, ← q) (x .affords)) (rw (e, ← q) (x .free))
-      go (no m) = none (record { index = x .index; below = omega (arith, x .below); affords = x .affords; free = x .free })
+pub arrival-passed : {caps : List ℕ} {f : Front} {i : ℕ} → (Arrival caps f i → ⊥) → (needAt f i ≤ getD caps 0 0 → floorOf f i ≡ 0 → ⊥)
+    → Arrival caps f (i + 1) → ⊥
+arrival-passed {caps} {f} {i} none not x = go (ℕ-discrete (x .index) i)
+  where
+    go : Dec (x .index ≡ i) → ⊥
+    go (yes q) = not (rw (← q) (x .affords)) (rw (← q) (x .free))
+    go (no m) = none (record { index = x .index; begin = x .begin; below = omega (arith, x .below); affords = x .affords; free = x .free })
 
 -- ---- the count
 
-one-long : (x p v : ℕ) → length (set (replicate 128 x) p v) ≡ 128
-one-long x p v = length-set (replicate 128 x) p v ∙ length-replicate {A = ℕ} 128 x
+-- an array with v at one place
+module _ (x p v : ℕ) (h : p < 128) where
+  one-there : getD (set (replicate 128 x) p v) p 0 ≡ v
+  one-there = getD-set-same (replicate 128 x) p v 0 (omega (arith, length-replicate {A = ℕ} 128 x))
+
+  one-other : (a : ℕ) → a < 128 → (a ≡ p → ⊥) → getD (set (replicate 128 x) p v) a 0 ≡ x
+  one-other a l n = getD-set-other (replicate 128 x) p a v 0 n ∙ getD-replicate 128 a x 0 l
+
+  one-long : length (set (replicate 128 x) p v) ≡ 128
+  one-long = length-set (replicate 128 x) p v ∙ length-replicate {A = ℕ} 128 x
 
 -- a row that is not yet reached, and one that is: its step has passed
-pub record Row (sums reached : List ℕ) (j a : ℕ) : Type 0 where
-  pub waits : mark ≤ getD sums a 0 → getD reached a 0 ≡ never
-  pub passed : getD sums a 0 < mark → getD reached a 0 ≤ j
+pub record Row (w : Work) (reached : List ℕ) (j a : ℕ) : Type 0 where
+  pub waits : mark ≤ need w mark j a → getD reached a 0 ≡ never
+  pub passed : need w mark j a < mark → getD reached a 0 ≤ j
 
--- j steps are searched, and the start still needs a payment
-pub record Counting (w : Work) (floors sums changed reached firsts : List ℕ) (n j : ℕ) : Type 0 where
-  pub sums-long : length sums ≡ 128
-  pub changed-long : length changed ≡ 128
-  pub reached-long : length reached ≡ 128
-  pub firsts-long : length firsts ≡ 128
-  pub needs : Needs w j sums
-  pub searched : Searched w sums changed n
-  pub row : (a : ℕ) → a ≤ w .last → Row sums reached j a
-  pub says : Says w reached firsts floors j
+-- row a stands in the window
+pub record InWindow (r : Notes) (v : Window) (a : ℕ) : Type 0 where
+  pub index : ℕ
+  pub begin : v .from ≤ index
+  pub below : index < v .end
+  pub entry : getD (r .found) index 0 ≡ a
+
+-- j steps are searched, and the start still needs a payment: the window has the rows that were reached in the last step and in the one before
+pub record Counting (w : Work) (floors : List ℕ) (r : Notes) (v : Window) (j : ℕ) : Type 0 where
+  pub kept : Kept r (v .end)
+  pub order : v .from ≤ v .fresh
+  pub order-end : v .fresh ≤ v .end
+  pub in-rows : (i : ℕ) → i < v .end → getD (r .found) i 0 ≤ w .last
+  pub at-last : (i : ℕ) → v .fresh ≤ i → i < v .end → getD (r .reached) (getD (r .found) i 0) 0 ≡ j
+  pub before : (i : ℕ) → v .from ≤ i → i < v .fresh → getD (r .reached) (getD (r .found) i 0) 0 < j
+  pub lists : (a : ℕ) → a ≤ w .last → j ≤ getD (r .reached) a 0 + 1 → getD (r .reached) a 0 ≤ j → InWindow r v a
+  pub row : (a : ℕ) → a ≤ w .last → Row w (r .reached) j a
+  pub says : Says w (r .reached) (r .firsts) floors j
   pub unfinished : (i : ℕ) → i ≤ j → 0 < need w mark i 0
 
--- they say what they said, where they are the same
-read-same : (reached firsts reached′ firsts′ floors : List ℕ) (i a : ℕ) → getD reached′ a 0 ≡ getD reached a 0 → getD firsts′ a 0 ≡ getD firsts a 0
-    → needRead reached′ firsts′ floors i a ≡ needRead reached firsts floors i a
-read-same reached firsts reached′ firsts′ floors i a p q = rw (p, q)
-
 -- the same of every table whose search has begun so
-pub record Progress (us held caps floors sums₀ changed₀ reached₀ firsts₀ sums changed reached firsts list : List ℕ) (n j : ℕ) : Type 0 where
+pub record Progress (us held caps floors list : List ℕ) (r₀ r : Notes) (v : Window) (j : ℕ) : Type 0 where
   pub list-long : length list ≡ 129
-  pub counting : (t : Terms) → Searchable t us held caps floors → Begun t sums₀ changed₀ reached₀ firsts₀
-      → Counting (rowsWork t us caps floors) floors sums changed reached firsts n j
+  pub counting : (t : Terms) → Searchable t us held caps floors → Begun t r₀ → Counting (rowsWork t us caps floors) floors r v j
 
 module _ {t : Terms} {us held caps floors : List ℕ} (g : Searchable t us held caps floors) where
   abbrev w : Work
   w = rowsWork t us caps floors
 
-  -- the arrays say what row a needs to end in up to j steps
-  record Known (sums reached firsts : List ℕ) (j a : ℕ) : Type 0 where
-    row : Row sums reached j a
-    says : (i : ℕ) → i ≤ j → needRead reached firsts floors i a ≡ need w mark i a
-
   few : w .last < 128
   few = omega (arith, g .good .few, g .good .some)
 
-  -- where the bounds rise, no row has a cap above that of a row that holds it
-  pub caps-rise : CapsRise us caps
-  caps-rise =
-      record {
-        cap-rises = λ a b l m t.
-            g .lawful .cap-rises a b (omega (arith, g .good .rows-are, g .good .some)) (omega (arith, g .good .rows-are, g .good .some)) t;
-      }
+  all : suc (w .last) ≡ rowsOf us
+  all = omega (arith, g .good .rows-are, g .good .some)
 
-  pub counting-start : {sums changed reached firsts : List ℕ} → Begun t sums changed reached firsts → Counting w floors sums changed reached firsts 1 0
+  pub counting-start : {r : Notes} → Begun t r → Counting w floors r (record { from = 0; fresh = 0; end = 1 }) 0
   unfolding need
-  counting-start {sums} {changed} {reached} {firsts} b =
+  counting-start {r} b =
       record {
-        sums-long = rw (b .sums-are) (one-long mark (w .last) (w .price));
-        changed-long = rw (b .changed-are) (one-long 0 0 (w .last));
-        reached-long = rw (b .reached-are) (one-long never (w .last) 0);
-        firsts-long = rw (b .firsts-are, b .sums-are) (one-long mark (w .last) (w .price));
-        needs = λ a l. needs a l (ℕ-discrete a (w .last));
-        searched = rw (b .sums-are, b .changed-are) (searched-start w few (g .high) (g .lawful));
+        kept =
+            record {
+              reached-long = rw (b .reached-are) (one-long never (w .last) 0 few);
+              firsts-long = rw (b .firsts-are) (one-long mark (w .last) (w .price) few);
+              found-long = rw (b .found-are) (one-long 0 0 (w .last) (omega arith));
+              counted =
+                  rw (b .reached-are)
+                  (sym
+                  (below-more never (replicate 128 never) (w .last) 0 (omega (arith, few, length-replicate {A = ℕ} 128 never)) (omega arith)
+                  (rw (getD-replicate 128 (w .last) never 0 few) (omega arith)) 128 few
+                  ∙ ap suc (below-none never (replicate 128 never) 128 (λ a l. rw (getD-replicate 128 a never 0 l) (omega arith)))));
+            };
+        order = omega arith;
+        order-end = omega arith;
+        in-rows = λ i l. let z : i ≡ 0 = omega arith in rw (z, found-first) (omega arith);
+        at-last = λ i k l. let z : i ≡ 0 = omega arith in rw (z, found-first) step-last;
+        before = λ i k l. absurd (omega arith);
+        lists = λ a l k m. only a l m (ℕ-discrete a (w .last));
         row = λ a l. row a l (ℕ-discrete a (w .last));
         says = λ i a k l. says i a (omega arith) l (ℕ-discrete a (w .last));
         unfinished = λ i h. first i (omega arith);
       }
     where
-      sum-last : getD sums (w .last) 0 ≡ w .price
-      sum-last = rw (b .sums-are) (one-there mark (w .last) (w .price) few)
+      found-first : getD (r .found) 0 0 ≡ w .last
+      found-first = rw (b .found-are) (one-there 0 0 (w .last) (omega arith))
 
-      sum-other : (a : ℕ) → a ≤ w .last → (a ≡ w .last → ⊥) → getD sums a 0 ≡ mark
-      sum-other a l n = rw (b .sums-are) (one-other mark (w .last) (w .price) few a (omega (arith, few)) n)
-
-      step-last : getD reached (w .last) 0 ≡ 0
+      step-last : getD (r .reached) (w .last) 0 ≡ 0
       step-last = rw (b .reached-are) (one-there never (w .last) 0 few)
 
-      step-other : (a : ℕ) → a ≤ w .last → (a ≡ w .last → ⊥) → getD reached a 0 ≡ never
+      step-other : (a : ℕ) → a ≤ w .last → (a ≡ w .last → ⊥) → getD (r .reached) a 0 ≡ never
       step-other a l n = rw (b .reached-are) (one-other never (w .last) 0 few a (omega (arith, few)) n)
 
-      needs : (a : ℕ) → a ≤ w .last → Dec (a ≡ w .last) → getD sums a 0 ≡ cond (eqb a (w .last)) (w .price) mark
-      needs a l (yes q) = rw (eq-eqb a (w .last) q, q) sum-last
-      needs a l (no n) = rw (ne-eqb a (w .last) n) (sum-other a l n)
+      only : (a : ℕ) → a ≤ w .last → getD (r .reached) a 0 ≤ 0 → Dec (a ≡ w .last) → InWindow r (record { from = 0; fresh = 0; end = 1 }) a
+      only a l m (yes q) = record { index = 0; begin = omega arith; below = omega arith; entry = found-first ∙ sym q }
+      only a l m (no n) = absurd (omega (arith, step-other a l n))
 
-      row : (a : ℕ) → a ≤ w .last → Dec (a ≡ w .last) → Row sums reached 0 a
-      row a l (yes q) = rw q (record { waits = λ m. absurd (omega (arith, sum-last, g .high)); passed = λ m. omega (arith, step-last) })
-      row a l (no n) = record { waits = λ m. step-other a l n; passed = λ m. absurd (omega (arith, sum-other a l n)) }
+      row : (a : ℕ) → a ≤ w .last → Dec (a ≡ w .last) → Row w (r .reached) 0 a
+      row a l (yes q) =
+          record {
+            waits = λ m. absurd (omega (arith, rw (eq-eqb a (w .last) q) at m, g .high));
+            passed = λ _. rw q (omega (arith, step-last));
+          }
+      row a l (no n) =
+          record { waits = λ _. step-other a l n; passed = λ m. absurd (omega (arith, rw (ne-eqb a (w .last) n) at m)) }
 
-      says : (i a : ℕ) → i ≡ 0 → a ≤ w .last → Dec (a ≡ w .last) → needRead reached firsts floors i a ≡ need w mark i a
+      says : (i a : ℕ) → i ≡ 0 → a ≤ w .last → Dec (a ≡ w .last) → needRead (r .reached) (r .firsts) floors i a ≡ need w mark i a
       says i a z l (yes q) =
-          rw z (read-then reached firsts floors 0 a (sym (rw q step-last)) ∙ rw (b .firsts-are) (needs a l (yes q)))
+          rw (z, eq-eqb a (w .last) q)
+          (read-then (r .reached) (r .firsts) floors 0 a (sym (rw q step-last)) ∙ rw (q, b .firsts-are) (one-there mark (w .last) (w .price) few))
       says i a z l (no n) =
-          let late : 0 < getD reached a 0 = omega (arith, step-other a l n) in
-          rw z (read-before reached firsts floors 0 a late ∙ sym (sum-other a l n) ∙ needs a l (no n))
+          let late : 0 < getD (r .reached) a 0 = omega (arith, step-other a l n) in
+          rw (z, ne-eqb a (w .last) n) (read-before (r .reached) (r .firsts) floors 0 a late)
 
       first : (i : ℕ) → i ≡ 0 → 0 < need w mark i 0
       first i e = rw (e, ne-eqb 0 (w .last) (λ q. omega (arith, g .good .some))) (omega arith)
 
-  module _ {sums changed reached firsts : List ℕ} {n j : ℕ} (h : Counting w floors sums changed reached firsts n j) where
-    pub can-step : {list : List ℕ} → length list ≡ 129 → CanStep us held caps sums changed list reached firsts n
-    can-step long =
-        record {
-          small = g .small;
-          units-are = g .units-are;
-          rise = caps-rise;
-          listed = rw (← all) (h .searched .listed);
-          sums-long = h .sums-long;
-          changed-long = h .changed-long;
-          list-long = long;
-          reached-long = h .reached-long;
-          firsts-long = h .firsts-long;
-        }
-      where
-        all : suc (w .last) ≡ rowsOf us
-        all = omega (arith, g .good .rows-are, g .good .some)
+  module _ {r : Notes} {v : Window} {j : ℕ} (h : Counting w floors r v j) where
+    abbrev f : Front
+    f = front floors (r .firsts) (r .found) v
 
-    least-is : (a : ℕ) → leastFloor w mark (sumAt sums) a (suc (w .last)) ≡ need w mark (suc j) a
-    unfolding need
-    least-is a = floor-ext w mark (sumAt sums) (need w mark j) a (suc (w .last)) (λ b l. h .needs b (omega arith))
+    pub end-few : v .end ≤ 128
+    end-few = omega (arith, h .kept .counted, below-le never (r .reached) 128)
 
-    -- a changed row ends the search: these are the fewest steps
-    pub counting-found : (most : ℕ) → Arrival caps floors sums changed n → j < most → Counted w most reached firsts floors (j + 1)
-    counting-found most x l =
-        rw add-one
-        (record {
-          count-is = counted-at w most (suc j) (omega arith) l enough (λ i k. h .unfinished i (omega arith));
-          reached-long = h .reached-long;
-          firsts-long = h .firsts-long;
-          reaches = λ _. record { says = λ i a q l. h .says i a (omega arith) l; enough = enough };
-        })
-      where
-        b : ℕ
-        b = getD changed (x .index) 0
+    pub found-few : (i : ℕ) → i < v .end → getD (r .found) i 0 < 128
+    found-few i l = omega (arith, h .in-rows i l, few)
 
-        in-rows : b ≤ w .last
-        in-rows = omega (arith, h .searched .listed .in-rows (x .index) (x .below))
-
-        enough : need w mark (suc j) 0 ≤ 0
-        enough = omega (arith, need-le w mark j 0 b in-rows (row-start us b) (omega (arith, x .affords, h .needs b in-rows)), x .free)
-
-    -- no changed row ends it: the start needs a payment also with one step more
-    unfinished-next : (Arrival caps floors sums changed n → ⊥) → 0 < need w mark (suc j) 0
-    unfinished-next none = go (decLt 0 (need w mark (suc j) 0))
-      where
-        go : Dec (0 < need w mark (suc j) 0) → 0 < need w mark (suc j) 0
-        go (yes l) = l
-        go (no m) =
-            let x = floor-is-least w mark (sumAt sums) 0 (suc (w .last)) .attained (omega (arith, least-is 0)) in
-            let f = follows↔ w (sumAt sums) 0 (x .row) .0 (x .follow) in
-            let in-rows : x .row ≤ w .last = omega (arith, x .below) in
-            let free : w .floor (x .row) ≡ 0 = omega (arith, x .floor-is, least-is 0) in
-            ⊎-elim (λ (q : sumAt sums 0 ≤ w .floor (x .row)). absurd (omega (arith, free, h .needs 0 (omega arith), h .unfinished j (omega arith))))
-            (λ (y : Among changed n (x .row)).
-            absurd (none (record { index = y .index; below = y .below; affords = rw (y .entry) (f .affords); free = rw (y .entry) free })))
-            (h .searched .complete 0 (x .row) (omega arith) in-rows (x .follow))
-
-    module _ {sums′ changed′ reached′ firsts′ : List ℕ} {n′ : ℕ}
-        (step : Stepped (layer us caps floors sums) (rowsOf us) changed n (j + 1) reached firsts sums′ changed′ reached′ firsts′ n′) where
-      needs′ : Needs w (suc j) sums′
-      needs′ a l = sums-least t us caps floors (g .good) (h .searched) step a l ∙ least-is a
-
-      -- no row's sum has changed: no more steps change one
-      pub counting-settled : (most : ℕ) → n′ ≡ 0 → Counted w most reached′ firsts′ floors (most + 1)
-      counting-settled most z =
-          record {
-            count-is =
-                omega
-                (arith, settled-none w mark most (g .lawful) j (λ a l. sym (needs′ a l) ∙ same a l ∙ h .needs a l) (h .unfinished j (omega arith)), count-is w mark most .within);
-            reached-long = step .steps .long;
-            firsts-long = step .firsts-are .long;
-            reaches = λ (q : most + 1 ≤ most). absurd (omega arith);
-          }
-        where
-          same : (a : ℕ) → a ≤ w .last → getD sums′ a 0 ≡ getD sums a 0
-          same = sums-same t us caps floors (g .good) (h .searched) step z
-
-      -- what the arrays say of a row: one that had a sum has its floor now, one that is reached its first sum, and the others wait
-      module _ (early : j + 1 < never) (a : ℕ) (l : a ≤ w .last) where
-        known : Row sums reached j a
-        known = h .row a l
-
-        had : getD sums a 0 < mark → Known sums′ reached′ firsts′ (suc j) a
-        had m =
-            let same = noted-kept t us caps floors (g .good) (h .searched) step a l (λ k. absurd (omega arith)) in
-            record {
-              row =
-                  record {
-                    waits = λ k. absurd (omega (arith, falls t us caps floors (g .good) (h .searched) step a l));
-                    passed = λ _. omega (arith, same .0, known .passed m);
-                  };
-              says = λ i k. go same i k (ℕ-discrete i (suc j));
-            }
-          where
-            go : ((getD reached′ a 0 ≡ getD reached a 0) × (getD firsts′ a 0 ≡ getD firsts a 0)) → (i : ℕ) → i ≤ suc j → Dec (i ≡ suc j)
-                → needRead reached′ firsts′ floors i a ≡ need w mark i a
-            go same i k (yes q) =
-                rw q
-                (read-after reached′ firsts′ floors (suc j) a (omega (arith, same .0, known .passed m))
-                ∙ sym (need-own w mark (g .lawful) (g .high) j a l (omega (arith, h .needs a l))))
-            go same i k (no z) = read-same reached firsts reached′ firsts′ floors i a (same .0) (same .1) ∙ h .says i a (omega arith) l
-
-        first : mark ≤ getD sums a 0 → getD sums′ a 0 < mark → Known sums′ reached′ firsts′ (suc j) a
-        first m k =
-            let new = noted-sum t us caps floors (g .good) (h .searched) step a l m k in
-            record {
-              row = record { waits = λ q. absurd (omega arith); passed = λ _. omega (arith, new .0) };
-              says = λ i c. go new i c (ℕ-discrete i (suc j));
-            }
-          where
-            go : ((getD reached′ a 0 ≡ j + 1) × (getD firsts′ a 0 ≡ getD sums′ a 0)) → (i : ℕ) → i ≤ suc j → Dec (i ≡ suc j)
-                → needRead reached′ firsts′ floors i a ≡ need w mark i a
-            go new i c (yes q) = rw q (read-then reached′ firsts′ floors (suc j) a (omega (arith, new .0)) ∙ new .1 ∙ needs′ a l)
-            go new i c (no z) =
-                read-before reached′ firsts′ floors i a (omega (arith, new .0))
-                ∙ sym (read-before reached firsts floors i a (omega (arith, known .waits m))) ∙ h .says i a (omega arith) l
-
-        waiting : mark ≤ getD sums a 0 → mark ≤ getD sums′ a 0 → Known sums′ reached′ firsts′ (suc j) a
-        waiting m k =
-            let same = noted-kept t us caps floors (g .good) (h .searched) step a l (λ _. k) in
-            record {
-              row = record { waits = λ _. same .0 ∙ known .waits m; passed = λ q. absurd (omega arith) };
-              says = λ i c. go same i c (ℕ-discrete i (suc j));
-            }
-          where
-            go : ((getD reached′ a 0 ≡ getD reached a 0) × (getD firsts′ a 0 ≡ getD firsts a 0)) → (i : ℕ) → i ≤ suc j → Dec (i ≡ suc j)
-                → needRead reached′ firsts′ floors i a ≡ need w mark i a
-            go same i c (yes q) =
-                let top : getD sums′ a 0 ≤ mark = searched-next t us caps floors (g .good) (h .searched) step .marked a l in
-                let all : mark ≡ getD sums′ a 0 = omega arith in
-                rw q (read-before reached′ firsts′ floors (suc j) a (omega (arith, same .0, known .waits m)) ∙ all ∙ needs′ a l)
-            go same i c (no z) = read-same reached firsts reached′ firsts′ floors i a (same .0) (same .1) ∙ h .says i a (omega arith) l
-
-        now-known : Dec (getD sums a 0 < mark) → Dec (getD sums′ a 0 < mark) → Known sums′ reached′ firsts′ (suc j) a
-        now-known (yes m) d = had m
-        now-known (no m) (yes k) = first (omega arith) k
-        now-known (no m) (no k) = waiting (omega arith) (omega arith)
-
-      pub counting-next : j + 1 < never → (Arrival caps floors sums changed n → ⊥) → Counting w floors sums′ changed′ reached′ firsts′ n′ (j + 1)
-      counting-next early none =
-          rw add-one
-          (record {
-            sums-long = step .over .sums-long;
-            changed-long = step .over .changed-long;
-            reached-long = step .steps .long;
-            firsts-long = step .firsts-are .long;
-            needs = needs′;
-            searched = searched-next t us caps floors (g .good) (h .searched) step;
-            row = λ a l. all a l .row;
-            says = λ i a k l. all a l .says i k;
-            unfinished = λ i l. later i l (ℕ-discrete i (suc j));
-          })
-        where
-          all : (a : ℕ) → a ≤ w .last → Known sums′ reached′ firsts′ (suc j) a
-          all a l = now-known early a l (decLt (getD sums a 0) mark) (decLt (getD sums′ a 0) mark)
-
-          later : (i : ℕ) → i ≤ suc j → Dec (i ≡ suc j) → 0 < need w mark i 0
-          later i l (yes q) = rw q (unfinished-next none)
-          later i l (no k) = h .unfinished i (omega arith)
-
-    pub counting-none : (most : ℕ) → most ≤ j → Counted w most reached firsts floors (most + 1)
+    pub counting-none : (most : ℕ) → most ≤ j → Counted w most (r .reached) (r .firsts) floors (most + 1)
     counting-none most l =
         record {
           count-is = counted-none w most (λ i k. h .unfinished i (omega arith));
-          reached-long = h .reached-long;
-          firsts-long = h .firsts-long;
+          reached-long = h .kept .reached-long;
+          firsts-long = h .kept .firsts-long;
           reaches = λ (q : most + 1 ≤ most). absurd (omega arith);
         }
+
+    -- what a row needs with one step more than it was reached in, or with more
+    own : (i a : ℕ) → i ≤ j → a ≤ w .last → getD (r .reached) a 0 < i → need w mark i a ≡ w .floor a
+    own i a k l m = sym (h .says i a k l) ∙ read-after (r .reached) (r .firsts) floors i a m
+
+    module _ (early : j < never) where
+      -- a row that is reached has a sum, and one that is not has none
+      has-sum : (a : ℕ) → a ≤ w .last → getD (r .reached) a 0 < never → (need w mark j a < mark) × (getD (r .reached) a 0 ≤ j)
+      has-sum a l m = go (decLt (need w mark j a) mark)
+        where
+          go : Dec (need w mark j a < mark) → (need w mark j a < mark) × (getD (r .reached) a 0 ≤ j)
+          go (yes k) = (k, h .row a l .passed k)
+          go (no k) = absurd (omega (arith, h .row a l .waits (omega arith)))
+
+      no-sum : (a : ℕ) → a ≤ w .last → never ≤ getD (r .reached) a 0 → need w mark j a ≡ mark
+      no-sum a l m = sym (h .says j a (omega arith) l) ∙ read-before (r .reached) (r .firsts) floors j a (omega arith)
+
+      -- the rows of the window need what they say
+      window-step : (i : ℕ) → v .from ≤ i → i < v .end → getD (r .reached) (rowAt f i) 0 ≤ j
+      window-step i k l = go (decLt i (v .fresh))
+        where
+          go : Dec (i < v .fresh) → getD (r .reached) (rowAt f i) 0 ≤ j
+          go (yes m) = omega (arith, h .before i k m)
+          go (no m) = omega (arith, h .at-last i (omega arith) l)
+
+      needs-are : (i : ℕ) → v .from ≤ i → i < v .end → needAt f i ≡ need w mark j (rowAt f i)
+      needs-are i k l = go (decLt i (v .fresh))
+        where
+          go : Dec (i < v .fresh) → needAt f i ≡ need w mark j (rowAt f i)
+          go (yes m) = rw (lt-ltb i (v .fresh) m) (sym (own j (rowAt f i) (omega arith) (h .in-rows i l) (h .before i k m)))
+          go (no m) =
+              rw (le-ltb i (v .fresh) (omega arith))
+              (sym (read-then (r .reached) (r .firsts) floors j (rowAt f i) (sym (h .at-last i (omega arith) l))) ∙ h .says j (rowAt f i) (omega arith) (h .in-rows i l))
+
+      pub can-step : {strides list : List ℕ} → Strides us strides → length list ≡ 129 → CanStep us strides held caps floors list r v
+      can-step s long =
+          record {
+            can-offer =
+                record {
+                  small = g .small;
+                  strides-are = s;
+                  units-are = g .units-are;
+                  -- where the bounds rise, no row has a cap above that of a row that holds it
+                  rise = record { cap-rises = λ a b l m t. g .lawful .cap-rises a b (omega (arith, all)) (omega (arith, all)) t };
+                };
+            offerers =
+                record {
+                  few = end-few;
+                  order = omega (arith, h .order, h .order-end);
+                  in-rows = λ i l. omega (arith, h .in-rows i l, all);
+                  low = λ i k l. low i k l;
+                };
+            kept = h .kept;
+            list-long = long;
+          }
+        where
+          low : (i : ℕ) → v .from ≤ i → i < v .end → floorOf f i < mark
+          low i k l =
+              let b : ℕ = rowAt f i in
+              let x = has-sum b (h .in-rows i l) (omega (arith, window-step i k l)) in
+              omega
+              (arith, need-own w mark (g .lawful) (g .high) j b (h .in-rows i l) (x .0), need-never-rises w mark (g .lawful) j (suc j) b (omega arith), x .0)
+
+      -- a row that can follow another stands in the window, or it could before
+      complete : (a b : ℕ) → a ≤ w .last → b ≤ w .last → T (w .holds a b) → need w mark j b ≤ w .cap a → (need w mark j a ≤ w .floor b) ⊎ InWindow r v b
+      complete a b la lb t p = go (decLt (getD (r .reached) b 0 + 1) j)
+        where
+          step : getD (r .reached) b 0 ≤ j
+          step = h .row b lb .passed (omega (arith, g .lawful .cap-price a, g .high))
+
+          go : Dec (getD (r .reached) b 0 + 1 < j) → (need w mark j a ≤ w .floor b) ⊎ InWindow r v b
+          go (no m) = inr (h .lists b lb (omega arith) step)
+          go (yes m) =
+              let e : suc (j - 1) ≡ j = omega arith in
+              let x : need w mark (j - 1) b ≤ w .cap a =
+              omega (arith, own (j - 1) b (omega arith) lb (omega arith), own j b (omega arith) lb (omega arith)) in
+              inl (rw e at (need-le w mark (j - 1) a b lb t x))
+
+      -- a row of the window ends the search: these are the fewest steps
+      pub counting-found : (most : ℕ) → Arrival caps f (v .end) → j < most → Counted w most (r .reached) (r .firsts) floors (j + 1)
+      counting-found most x l =
+          rw add-one
+          (record {
+            count-is = counted-at w most (suc j) (omega arith) l enough (λ i k. h .unfinished i (omega arith));
+            reached-long = h .kept .reached-long;
+            firsts-long = h .kept .firsts-long;
+            reaches = λ _. record { says = λ i a q l. h .says i a (omega arith) l; enough = enough };
+          })
+        where
+          in-deal : rowAt f (x .index) ≤ w .last
+          in-deal = h .in-rows (x .index) (x .below)
+
+          enough : need w mark (suc j) 0 ≤ 0
+          enough =
+              omega
+              (arith, need-le w mark j 0 (rowAt f (x .index)) in-deal (row-start us (rowAt f (x .index))) (omega (arith, x .affords, needs-are (x .index) (x .begin) (x .below))), x .free)
+
+      -- no row of the window ends it: the start needs a payment also with one step more
+      unfinished-next : (Arrival caps f (v .end) → ⊥) → 0 < need w mark (suc j) 0
+      unfolding need
+      unfinished-next none = go (decLt 0 (leastFloor w mark (need w mark j) 0 (suc (w .last))))
+        where
+          go : Dec (0 < leastFloor w mark (need w mark j) 0 (suc (w .last))) → 0 < leastFloor w mark (need w mark j) 0 (suc (w .last))
+          go (yes l) = l
+          go (no m) =
+              let x = floor-is-least w mark (need w mark j) 0 (suc (w .last)) .attained (omega arith) in
+              let y = follows↔ w (need w mark j) 0 (x .row) .0 (x .follow) in
+              let free : w .floor (x .row) ≡ 0 = omega (arith, x .floor-is) in
+              ⊎-elim (λ (q : need w mark j 0 ≤ w .floor (x .row)). absurd (omega (arith, free, h .unfinished j (omega arith))))
+              (λ (z : InWindow r v (x .row)).
+              absurd
+              (none
+              (record {
+                index = z .index;
+                begin = z .begin;
+                below = z .below;
+                affords = omega (arith, needs-are (z .index) (z .begin) (z .below), ap (need w mark j) (z .entry), y .affords);
+                free = rw (z .entry) free;
+              })))
+              (complete 0 (x .row) (omega arith) (omega (arith, x .below)) (y .delivers) (y .affords))
+
+      -- the best offer of a row that is not reached is what it needs with one step more
+      best-need : (a o : ℕ) → a ≤ w .last → never ≤ getD (r .reached) a 0 → Best us caps f (v .end) a o → o ≡ need w mark (suc j) a
+      unfolding need
+      best-need a o l m b = go (decLt (leastFloor w mark (need w mark j) a (suc (w .last))) mark) (decLt o mark)
+        where
+          least : IsLeast w mark (need w mark j) a (suc (w .last)) (leastFloor w mark (need w mark j) a (suc (w .last)))
+          least = floor-is-least w mark (need w mark j) a (suc (w .last))
+
+          above : o < mark → leastFloor w mark (need w mark j) a (suc (w .last)) ≤ o
+          above k =
+              let x = b .taken k in
+              let y = h .in-rows (x .index) (x .below) in
+              let z : T (follows w (need w mark j) a (rowAt f (x .index))) =
+              follows↔ w (need w mark j) a (rowAt f (x .index)) .1
+              (record { delivers = x .offers .held; affords = omega (arith, needs-are (x .index) (x .begin) (x .below), x .offers .pays) }) in
+              omega (arith, least .least (rowAt f (x .index)) (omega arith) z, x .floor-is)
+
+          under : leastFloor w mark (need w mark j) a (suc (w .last)) < mark → o ≤ leastFloor w mark (need w mark j) a (suc (w .last))
+          under k =
+              let x = least .attained k in
+              let y = follows↔ w (need w mark j) a (x .row) .0 (x .follow) in
+              ⊎-elim (λ (q : need w mark j a ≤ w .floor (x .row)). absurd (omega (arith, no-sum a l m, x .floor-is, k)))
+              (λ (z : InWindow r v (x .row)).
+              omega
+              (arith, b .least (z .index) (z .begin) (z .below) (record { held = rw (z .entry) (y .delivers); pays = omega (arith, needs-are (z .index) (z .begin) (z .below), ap (need w mark j) (z .entry), y .affords) }), x .floor-is, ap (w .floor) (z .entry)))
+              (complete a (x .row) l (omega (arith, x .below)) (y .delivers) (y .affords))
+
+          go : Dec (leastFloor w mark (need w mark j) a (suc (w .last)) < mark) → Dec (o < mark) → o ≡ leastFloor w mark (need w mark j) a (suc (w .last))
+          go (yes p) (yes q) = omega (arith, above q, under p)
+          go (yes p) (no q) = omega (arith, under p)
+          go (no p) (yes q) = omega (arith, above q)
+          go (no p) (no q) = omega (arith, least .marked, b .marked)
+
+      module _ {r′ : Notes} {m : ℕ} (step : Stepped us caps f (j + 1) (r .reached) r′ m) where
+        -- a row that was reached needs its floor now
+        settled : (a : ℕ) → a ≤ w .last → getD (r .reached) a 0 < never → need w mark (suc j) a ≡ w .floor a
+        settled a l k = need-own w mark (g .lawful) (g .high) j a l (has-sum a l k .0)
+
+        -- and the others what they are offered
+        offer-need : (a : ℕ) → a ≤ w .last → never ≤ getD (r .reached) a 0 → getD (step .next) a 0 ≡ need w mark (suc j) a
+        offer-need a l k = best-need a (getD (step .next) a 0) l k (step .offered a (omega (arith, all)))
+
+        -- no row was reached in the last step and none is in this one: no more steps change a need
+        pub counting-settled : (most : ℕ) → v .fresh ≡ m → Counted w most (r′ .reached) (r′ .firsts) floors (most + 1)
+        counting-settled most z =
+            record {
+              count-is =
+                  omega (arith, settled-none w mark most (g .lawful) j (λ a l. same a l (decLt (getD (r .reached) a 0) never)) (h .unfinished j (omega arith)), count-is w mark most .within);
+              reached-long = step .noted .kept .reached-long;
+              firsts-long = step .noted .kept .firsts-long;
+              reaches = λ (q : most + 1 ≤ most). absurd (omega arith);
+            }
+          where
+            earlier : (a : ℕ) → a ≤ w .last → getD (r .reached) a 0 ≤ j → getD (r .reached) a 0 < j
+            earlier a l k = go (decLt (getD (r .reached) a 0) j)
+              where
+                go : Dec (getD (r .reached) a 0 < j) → getD (r .reached) a 0 < j
+                go (yes y) = y
+                go (no y) =
+                    let x = h .lists a l (omega arith) k in
+                    let early : x .index < v .fresh = omega (arith, x .below, step .noted .more, z) in
+                    rw (x .entry) at (h .before (x .index) (x .begin) early)
+
+            same : (a : ℕ) → a ≤ w .last → Dec (getD (r .reached) a 0 < never) → need w mark (suc j) a ≡ need w mark j a
+            same a l (yes k) = settled a l k ∙ sym (own j a (omega arith) l (earlier a l (has-sum a l k .1)))
+            same a l (no k) = go (decLt (getD (step .next) a 0) mark)
+              where
+                go : Dec (getD (step .next) a 0 < mark) → need w mark (suc j) a ≡ need w mark j a
+                go (yes o) =
+                    let x = step .noted .new a (omega (arith, all)) (omega arith) o in
+                    absurd (omega (arith, x .begin, x .below, h .order-end, z))
+                go (no o) =
+                    omega (arith, offer-need a l (omega arith), no-sum a l (omega arith), step .offered a (omega (arith, all)) .marked)
+
+        -- what the notes say of a row
+        record Known (a : ℕ) : Type 0 where
+          row : Row w (r′ .reached) (suc j) a
+          says : (i : ℕ) → i ≤ suc j → needRead (r′ .reached) (r′ .firsts) floors i a ≡ need w mark i a
+
+        -- as long as a row's notes are the same they say the same
+        says-same : (a i : ℕ) → a ≤ w .last → i ≤ j → Same r r′ a → needRead (r′ .reached) (r′ .firsts) floors i a ≡ need w mark i a
+        says-same a i l k s = rw (s .step-same, s .first-same) (h .says i a k l)
+
+        module _ (later : j + 1 < never) (a : ℕ) (l : a ≤ w .last) where
+          had : getD (r .reached) a 0 < never → Known a
+          had k =
+              record {
+                row =
+                    record {
+                      waits = λ q. absurd (omega (arith, need-never-rises w mark (g .lawful) j (suc j) a (omega arith), x .0));
+                      passed = λ _. omega (arith, s .step-same, x .1);
+                    };
+                says = λ i c. go i c (ℕ-discrete i (suc j));
+              }
+            where
+              s : Same r r′ a
+              s = step .noted .had a k
+
+              x : (need w mark j a < mark) × (getD (r .reached) a 0 ≤ j)
+              x = has-sum a l k
+
+              go : (i : ℕ) → i ≤ suc j → Dec (i ≡ suc j) → needRead (r′ .reached) (r′ .firsts) floors i a ≡ need w mark i a
+              go i c (yes q) = rw q (read-after (r′ .reached) (r′ .firsts) floors (suc j) a (omega (arith, s .step-same, x .1)) ∙ sym (settled a l k))
+              go i c (no q) = says-same a i l (omega arith) s
+
+          first : never ≤ getD (r .reached) a 0 → getD (step .next) a 0 < mark → Known a
+          first k o =
+              record {
+                row = record { waits = λ q. absurd (omega (arith, offer-need a l k)); passed = λ _. omega (arith, x .step-is) };
+                says = λ i c. go i c (ℕ-discrete i (suc j));
+              }
+            where
+              x : New (step .next) (j + 1) (v .end) r′ m a
+              x = step .noted .new a (omega (arith, all)) k o
+
+              go : (i : ℕ) → i ≤ suc j → Dec (i ≡ suc j) → needRead (r′ .reached) (r′ .firsts) floors i a ≡ need w mark i a
+              go i c (yes q) = rw q (read-then (r′ .reached) (r′ .firsts) floors (suc j) a (omega (arith, x .step-is)) ∙ x .first-is ∙ offer-need a l k)
+              go i c (no q) =
+                  read-before (r′ .reached) (r′ .firsts) floors i a (omega (arith, x .step-is))
+                  ∙ sym (read-before (r .reached) (r .firsts) floors i a (omega arith)) ∙ h .says i a (omega arith) l
+
+          waiting : never ≤ getD (r .reached) a 0 → mark ≤ getD (step .next) a 0 → getD (r .reached) a 0 ≡ never → Known a
+          waiting k o e =
+              record {
+                row = record { waits = λ _. s .step-same ∙ e; passed = λ q. absurd (omega (arith, offer-need a l k)) };
+                says = λ i c. go i c (ℕ-discrete i (suc j));
+              }
+            where
+              s : Same r r′ a
+              s = step .noted .waits a (omega (arith, all)) k o
+
+              go : (i : ℕ) → i ≤ suc j → Dec (i ≡ suc j) → needRead (r′ .reached) (r′ .firsts) floors i a ≡ need w mark i a
+              go i c (yes q) =
+                  let top : mark ≡ getD (step .next) a 0 = omega (arith, step .offered a (omega (arith, all)) .marked) in
+                  rw q (read-before (r′ .reached) (r′ .firsts) floors (suc j) a (omega (arith, s .step-same, e)) ∙ top ∙ offer-need a l k)
+              go i c (no q) = says-same a i l (omega arith) s
+
+          known : Known a
+          known = go (decLt (getD (r .reached) a 0) never) (decLt (getD (step .next) a 0) mark)
+            where
+              go : Dec (getD (r .reached) a 0 < never) → Dec (getD (step .next) a 0 < mark) → Known a
+              go (yes k) d = had k
+              go (no k) (yes o) = first (omega arith) o
+              go (no k) (no o) = waiting (omega arith) (omega arith) (h .row a l .waits (omega (arith, no-sum a l (omega arith))))
+
+        pub counting-next : j + 1 < never → (Arrival caps f (v .end) → ⊥) → Counting w floors r′ (record { from = v .fresh; fresh = v .end; end = m }) (j + 1)
+        counting-next later none =
+            rw add-one
+            (record {
+              kept = step .noted .kept;
+              order = h .order-end;
+              order-end = step .noted .more;
+              in-rows = λ i l. in-rows i l (decLt i (v .end));
+              at-last = λ i k l. step .noted .found-new i k l .1 ∙ add-one j;
+              before = before;
+              lists = λ a l k o. lists a l k o (decLt (getD (r .reached) a 0) never);
+              row = λ a l. known later a l .row;
+              says = λ i a k l. known later a l .says i k;
+              unfinished = λ i l. go i l (ℕ-discrete i (suc j));
+            })
+          where
+            in-rows : (i : ℕ) → i < m → Dec (i < v .end) → getD (r′ .found) i 0 ≤ w .last
+            in-rows i l (yes k) = rw (step .noted .found-kept i k) (h .in-rows i k)
+            in-rows i l (no k) = omega (arith, step .noted .found-new i (omega arith) l .0, all)
+
+            -- a row of the last step keeps its notes
+            before : (i : ℕ) → v .fresh ≤ i → i < v .end → getD (r′ .reached) (getD (r′ .found) i 0) 0 < suc j
+            before i k l =
+                let e = h .at-last i k l in
+                rw (step .noted .found-kept i l) (omega (arith, step .noted .had (getD (r .found) i 0) (omega (arith, e)) .step-same, e))
+
+            lists : (a : ℕ) → a ≤ w .last → suc j ≤ getD (r′ .reached) a 0 + 1 → getD (r′ .reached) a 0 ≤ suc j → Dec (getD (r .reached) a 0 < never)
+                → InWindow r′ (record { from = v .fresh; fresh = v .end; end = m }) a
+            lists a l k o (yes y) =
+                let s = step .noted .had a y .step-same in
+                let x = h .lists a l (omega (arith, s)) (has-sum a l y .1) in
+                record {
+                  index = x .index;
+                  begin = late x (decLt (x .index) (v .fresh)) (omega (arith, s));
+                  below = omega (arith, x .below, step .noted .more);
+                  entry = step .noted .found-kept (x .index) (x .below) ∙ x .entry;
+                }
+              where
+                late : (x : InWindow r v a) → Dec (x .index < v .fresh) → j ≤ getD (r .reached) a 0 → v .fresh ≤ x .index
+                late x (yes q) k = absurd (omega (arith, rw (x .entry) at (h .before (x .index) (x .begin) q)))
+                late x (no q) k = omega arith
+            lists a l k o (no y) = go (decLt (getD (step .next) a 0) mark)
+              where
+                go : Dec (getD (step .next) a 0 < mark) → InWindow r′ (record { from = v .fresh; fresh = v .end; end = m }) a
+                go (yes q) =
+                    let x = step .noted .new a (omega (arith, all)) (omega arith) q in
+                    record { index = x .index; begin = omega (arith, x .begin, h .order-end); below = x .below; entry = x .entry }
+                go (no q) = absurd (omega (arith, step .noted .waits a (omega (arith, all)) (omega arith) (omega arith) .step-same))
+
+            go : (i : ℕ) → i ≤ suc j → Dec (i ≡ suc j) → 0 < need w mark i 0
+            go i l (yes q) = rw q (unfinished-next none)
+            go i l (no k) = h .unfinished i (omega arith)

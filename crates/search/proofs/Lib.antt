@@ -3,9 +3,8 @@ pub mod LimitLaws
 pub mod AlikeLaws
 pub mod OfferLaws
 pub mod ListLaws
-pub mod LayerLaws
 pub mod ReadLaws
-pub mod TakeLaws
+pub mod NoteLaws
 pub mod CountLaws
 pub mod WalkLaws
 pub mod SuitLaws

@@ -2,7 +2,7 @@
 use mathlib.Core.Path.{_≡_, refl, sym, ap, _∙_}
 use mathlib.Core.Bool.{true, false, cond, false≢true}
 use mathlib.Core.List.{List, map}
-use Prim.Native.Nat.{ℕ, _-_, _≤_, _<_}
+use Prim.Native.Nat.{ℕ, _-_, _^_, _≤_, _<_}
 use native.Mathlib.Decide.{decLt}
 use native.Mathlib.Omega.{arith}
 use lib.ListN.{length, getD, length-map}
@@ -81,8 +81,8 @@ module _ {t : Terms} {us costs values places sums : List ℕ} {most : ℕ} (f : 
         price a (yes l) = rw (cap-is a (omega arith)) (law .cap-price a)
         price a (no n) = rw (cs .rest a (omega arith)) (omega arith)
 
-    pub searchable : {held : List ℕ} → RowUnits us held (rowsOf us) → t .sides .price < mark → Searchable t us held caps floors
-    searchable u high = record { good = f .good; small = f .small; units-are = u; high = high; lawful = rows-lawful }
+    pub searchable : {held : List ℕ} → RowUnits us held (rowsOf us) → t .sides .price < 2 ^ 32 → Searchable t us held caps floors
+    searchable u narrow = record { good = f .good; small = f .small; units-are = u; narrow = narrow; high = omega arith; lawful = rows-lawful }
 
     module _ {reached firsts : List ℕ} {k : ℕ} (c : Counted w most reached firsts floors k) where
       pub can-walk : k ≤ most → CanWalk w reached firsts floors k places sums

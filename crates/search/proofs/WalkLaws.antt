@@ -2,7 +2,7 @@
 use mathlib.Core.Path.{_≡_, refl, sym, ap, subst, _∙_}
 use mathlib.Core.Bool.{Bool, true, false, _&&_}
 use mathlib.Core.List.{List, [], _∷_, _++_, map, append-nil, append-assoc}
-use Prim.Native.Nat.{ℕ, zero, suc, _+_, _-_, _≤_, _<_}
+use Prim.Native.Nat.{ℕ, zero, suc, _+_, _-_, _≤_, _<_, _^_}
 use native.Mathlib.Nat.{add-zero, zero-add}
 use native.Mathlib.Numerals.{add-one}
 use native.Mathlib.Omega.{arith}
@@ -204,9 +204,9 @@ module _ {t : Terms} {us held caps floors reached firsts : List ℕ} {steps : �
     pub going-in : a < t .rows
     going-in = omega (arith, h .walking .in-deal, g .good .some)
 
-    -- the cap of a row is below the mark
-    pub going-pays : getD caps a 0 < mark
-    going-pays = omega (arith, g .lawful .cap-price a, g .high)
+    -- the cap of a row has 32 bits
+    pub going-pays : getD caps a 0 < 2 ^ 32
+    going-pays = omega (arith, g .lawful .cap-price a, g .narrow)
 
     pub going-on : {b pay : ℕ} {places′ sums′ : List ℕ} → 0 < left
         → b ≡ firstRow held floors (needRead reached firsts floors (left - 1)) (getD caps a 0) a paid (t .rows) a → pay ≡ getD caps a 0

@@ -1,13 +1,15 @@
--- The search as the code makes it: step by step, in each step the rows whose sum has changed offer their floor.
+-- The search as the code makes it: step by step, in each step the rows whose need has changed offer their floor.
 use mathlib.Core.Path.{_≡_}
 use mathlib.Core.Bool.{Bool, true, false, cond, _&&_}
+use mathlib.Core.Logic.{_⊎_}
 use mathlib.Core.List.{List, map}
-use Prim.Native.Nat.{ℕ, zero, suc, min, _+_, _-_, _≤_, _<_}
-use lib.Dec.{leb, ltb, eqb}
+use Prim.Native.Nat.{ℕ, zero, suc, min, _+_, _-_, _^_, _≤_, _<_}
+use lib.Dec.{T, leb, ltb, eqb}
 use lib.ListN.{getD, set, length, take, replicate}
 use Rattle.area.specs.Entries.{entries, remainder}
 use Rattle.grid.specs.Rows.{rowsOf}
 use Rattle.grid.specs.Units.{Small, RowUnits}
+use Rattle.grid.specs.Below.{Strides}
 use Rattle.exchange.specs.Deal.{start}
 use Rattle.exchange.specs.Work.{Work, workOf, Lawful}
 use Rattle.exchange.specs.Bounds.{upperOf, lowerOf}
@@ -18,11 +20,12 @@ use Rattle.exchange.specs.Search.{need, count, firstOf, forwards}
 use Rattle.held.specs.Down.{CapsRise}
 use Rattle.held.specs.Words.{holdsWord}
 use Rattle.search.specs.declared.Terms.{Terms}
+use Rattle.search.specs.declared.layers.Window.{Window}
 use Rattle.search.specs.Promise.{Rise}
 
 -- the sum of a row from which the end is not reached, above every price
 abbrev pub mark : ℕ
-mark = 4294967296
+mark = 18446744073709551615
 
 -- the working form of a table
 abbrev pub working : Terms → List ℕ → List ℕ → List ℕ → Work
@@ -64,10 +67,6 @@ Caps t costs = Lists (capAt (t .sides .price) (getD costs (t .rows - 1) 0) (t .s
 abbrev pub Floors : Terms → List ℕ → List ℕ → ℕ → Type 0
 Floors t values = Lists (floorAt (t .sides .price) (getD values (t .rows - 1) 0) (t .sides .buyer) values)
 
--- the sums of an array, row by row
-abbrev pub sumAt : List ℕ → ℕ → ℕ
-sumAt sums b = getD sums b 0
-
 -- the working form by arrays with the caps and the floors of the rows
 abbrev pub rowsWork : Terms → List ℕ → List ℕ → List ℕ → Work
 rowsWork t us caps floors =
@@ -79,165 +78,204 @@ rowsWork t us caps floors =
       holds = holdsRow us;
     }
 
--- what the search asks: a table, the units of its rows, a price below the mark, and caps and floors that rise
+-- what the search asks: a table, the units of its rows, a price of 32 bits and below the mark, and caps and floors that rise
 pub record Searchable (t : Terms) (us held caps floors : List ℕ) : Type 0 where
   pub good : Table t us
   pub small : Small us
   pub units-are : RowUnits us held (rowsOf us)
+  pub narrow : t .sides .price < 2 ^ 32
   pub high : t .sides .price < mark
   pub lawful : Lawful (rowsWork t us caps floors)
 
 -- ---- offers
 
--- what a step of the search looks at: the units of each item, the caps and floors of the rows, and their sums of one step less
-pub record Layer : Type 0 where
-  pub units : List ℕ
-  pub caps : List ℕ
-  pub floors : List ℕ
-  pub sums : List ℕ
+-- what an offer asks of the table: few rows, how many of them each item takes a unit, the units of each, and caps that rise
+pub record CanOffer (us strides held caps : List ℕ) : Type 0 where
+  pub small : Small us
+  pub strides-are : Strides us strides
+  pub units-are : RowUnits us held (rowsOf us)
+  pub rise : CapsRise us caps
 
--- the same, from these lists
-abbrev pub layer : List ℕ → List ℕ → List ℕ → List ℕ → Layer
-layer us caps floors sums = record { units = us; caps = caps; floors = floors; sums = sums }
-
--- whether a row takes an offer: the row that offers can follow, and its floor is below the sum and below the best offer so far
-abbrev pub takes : Bool → ℕ → ℕ → ℕ → ℕ → ℕ → Bool
-takes holds need cap floor sum best = holds && leb need cap && ltb floor sum && ltb floor best
-
--- the best offer of row a once row b offers its floor
-unfoldable pub offerTo : Layer → ℕ → ℕ → ℕ → ℕ
-offerTo l b a old =
-    cond (takes (holdsRow (l .units) a b) (sumAt (l .sums) b) (getD (l .caps) a 0) (getD (l .floors) b 0) (sumAt (l .sums) a) old)
-    (getD (l .floors) b 0)
-    old
-
--- the best offer of row a once the first n rows of a list have offered
-unfoldable pub offered : Layer → List ℕ → ℕ → ℕ → ℕ → ℕ
-offered l changed zero a old = old
-offered l changed (suc n) a old = offerTo l (getD changed n 0) a (offered l changed n a old)
+-- the best offer of row a once row b offers its floor to the rows that it holds and that can pay what it needs
+unfoldable pub offerTo : List ℕ → List ℕ → ℕ → ℕ → ℕ → ℕ → ℕ → ℕ
+offerTo us caps b need floor a old = cond (holdsRow us a b && leb need (getD caps a 0)) (min floor old) old
 
 -- the best offer of each row becomes that of f, in an array of 128 entries
 pub record Offers (f : ℕ → ℕ → ℕ) (rows : ℕ) (next next′ : List ℕ) : Type 0 where
   pub long : length next′ ≡ 128
   pub offer-is : (a : ℕ) → a < rows → getD next′ a 0 ≡ f a (getD next a 0)
 
--- ---- one step
+-- the rows that can offer something new: the floors and first sums of all rows, those that are reached, and the window of them
+pub record Front : Type 0 where
+  pub floors : List ℕ
+  pub firsts : List ℕ
+  pub found : List ℕ
+  pub window : Window
 
--- the first n entries of a list are rows
-pub record Listed (changed : List ℕ) (n rows : ℕ) : Type 0 where
-  pub few : n ≤ 128
-  pub in-rows : (i : ℕ) → i < n → getD changed i 0 < rows
+-- the same, from these lists
+abbrev pub front : List ℕ → List ℕ → List ℕ → Window → Front
+front floors firsts found v = record { floors = floors; firsts = firsts; found = found; window = v }
+
+-- the i-th row that was reached
+abbrev pub rowAt : Front → ℕ → ℕ
+rowAt f i = getD (f .found) i 0
+
+-- its floor
+abbrev pub floorOf : Front → ℕ → ℕ
+floorOf f i = getD (f .floors) (rowAt f i) 0
+
+-- what it needs: its floor, and its first sum if it was reached in the last step
+abbrev pub needAt : Front → ℕ → ℕ
+needAt f i = cond (ltb i (f .window .fresh)) (floorOf f i) (getD (f .firsts) (rowAt f i) 0)
+
+-- it offers its floor to row a
+pub record OffersTo (us caps : List ℕ) (f : Front) (a i : ℕ) : Type 0 where
+  pub held : T (holdsRow us a (rowAt f i))
+  pub pays : needAt f i ≤ getD caps a 0
+
+-- o is the floor that one of the rows of the window, before the n-th, offers to row a
+pub record Taken (us caps : List ℕ) (f : Front) (n a o : ℕ) : Type 0 where
+  pub index : ℕ
+  pub begin : f .window .from ≤ index
+  pub below : index < n
+  pub offers : OffersTo us caps f a index
+  pub floor-is : o ≡ floorOf f index
+
+-- o is the least of the floors that they offer to row a; the mark if none does
+pub record Best (us caps : List ℕ) (f : Front) (n a o : ℕ) : Type 0 where
+  pub marked : o ≤ mark
+  pub taken : o < mark → Taken us caps f n a o
+  pub least : (i : ℕ) → f .window .from ≤ i → i < n → OffersTo us caps f a i → o ≤ floorOf f i
+
+-- an array has the best offer of each row once the rows of the window before the n-th have offered
+abbrev pub Offered : List ℕ → List ℕ → Front → ℕ → List ℕ → Type 0
+Offered us caps f n next = (a : ℕ) → a < rowsOf us → Best us caps f n a (getD next a 0)
+
+-- the rows of a window are rows of the table, and their floors are below the mark
+pub record Offerers (floors found : List ℕ) (v : Window) (rows : ℕ) : Type 0 where
+  pub few : v .end ≤ 128
+  pub order : v .from ≤ v .end
+  pub in-rows : (i : ℕ) → i < v .end → getD found i 0 < rows
+  pub low : (i : ℕ) → v .from ≤ i → i < v .end → getD floors (getD found i 0) 0 < mark
+
+-- ---- the rows that have an offer
 
 -- one of the first n entries of a list is a
-pub record Among (changed : List ℕ) (n a : ℕ) : Type 0 where
+pub record Among (list : List ℕ) (n a : ℕ) : Type 0 where
   pub index : ℕ
   pub below : index < n
-  pub entry : getD changed index 0 ≡ a
+  pub entry : getD list index 0 ≡ a
 
--- how many of the first k entries of an array are below the mark
-unfoldable pub below : List ℕ → ℕ → ℕ
-below next zero = 0
-below next (suc k) = cond (ltb (getD next k 0) mark) (suc (below next k)) (below next k)
+-- how many of the first k entries of an array are below a number
+unfoldable pub below : ℕ → List ℕ → ℕ → ℕ
+below m xs zero = 0
+below m xs (suc k) = cond (ltb (getD xs k 0) m) (suc (below m xs k)) (below m xs k)
 
 -- the list has the rows whose offer is below the mark, each once, and a place more than there are rows
 pub record Listing (next list : List ℕ) (n rows : ℕ) : Type 0 where
   pub next-long : length next ≡ 128
   pub list-long : length list ≡ 129
-  pub marked : (a : ℕ) → a < rows → getD next a 0 ≤ mark
-  pub counted : n ≡ below next rows
+  pub counted : n ≡ below mark next rows
+  pub few : n ≤ 128
   pub lists : (a : ℕ) → a < rows → getD next a 0 < mark → Among list n a
-  pub listed : Listed list n rows
+  pub in-rows : (i : ℕ) → i < n → getD list i 0 < rows
   pub taken : (i : ℕ) → i < n → getD next (getD list i 0) 0 < mark
 
--- row a is written behind the list, and belongs to it if it has its first offer
-pub record RowListed (list : List ℕ) (n a before after : ℕ) (list′ : List ℕ) (n′ : ℕ) : Type 0 where
+-- row a is written behind the list, and belongs to it if it had no offer before
+pub record RowListed (list : List ℕ) (n a before : ℕ) (list′ : List ℕ) (n′ : ℕ) : Type 0 where
   pub list-is : list′ ≡ set list n a
-  pub count-is : n′ ≡ cond (ltb before mark) n (cond (ltb after mark) (n + 1) n)
+  pub count-is : n′ ≡ cond (ltb before mark) n (n + 1)
 
--- the offers of the first n rows of a list become their sums, and the other rows keep theirs
-pub record Taken (next list sums sums′ : List ℕ) (n : ℕ) : Type 0 where
-  pub sums-long : length sums′ ≡ 128
-  pub sum-is : (i : ℕ) → i < n → getD sums′ (getD list i 0) 0 ≡ getD next (getD list i 0) 0
-  pub kept : (a : ℕ) → ((i : ℕ) → i < n → getD list i 0 ≡ a → ⊥) → getD sums′ a 0 ≡ getD sums a 0
-
--- the first i entries of a list stand in another, from its n-th entry back
-pub record Reversed (list changed : List ℕ) (n i : ℕ) : Type 0 where
-  pub long : length changed ≡ 128
-  pub entry : (k : ℕ) → k < i → getD changed (n - suc k) 0 ≡ getD list k 0
-
--- an offer below the mark becomes the sum of its row, and the list has the row
-pub record TakenOver (next sums sums′ changed : List ℕ) (n rows : ℕ) : Type 0 where
-  pub sums-long : length sums′ ≡ 128
-  pub changed-long : length changed ≡ 128
-  pub sum-is : (a : ℕ) → a < rows → getD sums′ a 0 ≡ cond (ltb (getD next a 0) mark) (getD next a 0) (getD sums a 0)
-  pub lists : (a : ℕ) → a < rows → getD next a 0 < mark → Among changed n a
-  pub listed : Listed changed n rows
-
--- an array of 128 entries has its value for each of the first n rows of a list that had no sum; its other entries are as they were
-pub record Put (value : ℕ → ℕ) (sums list before after : List ℕ) (n : ℕ) : Type 0 where
-  pub long : length after ≡ 128
-  pub entry : (i : ℕ) → i < n → mark ≤ getD sums (getD list i 0) 0 → getD after (getD list i 0) 0 ≡ value (getD list i 0)
-  pub kept : (a : ℕ) → ((i : ℕ) → i < n → getD list i 0 ≡ a → mark ≤ getD sums a 0 → ⊥) → getD after a 0 ≡ getD before a 0
-
--- for each of those rows the step in which it is reached is noted, and the offer that is its first sum
-pub record Noted (next sums list : List ℕ) (step : ℕ) (reached firsts reached′ firsts′ : List ℕ) (n : ℕ) : Type 0 where
-  pub steps : Put (λ _. step) sums list reached reached′ n
-  pub offers : Put (λ a. getD next a 0) sums list firsts firsts′ n
-
--- the same for each row that has an offer and had no sum
-pub record PutAll (value : ℕ → ℕ) (next sums before after : List ℕ) (rows : ℕ) : Type 0 where
-  pub long : length after ≡ 128
-  pub entry : (a : ℕ) → a < rows → getD next a 0 < mark → mark ≤ getD sums a 0 → getD after a 0 ≡ value a
-  pub kept : (a : ℕ) → a < rows → (getD next a 0 < mark → mark ≤ getD sums a 0 → ⊥) → getD after a 0 ≡ getD before a 0
-
--- what a step needs: the units of the rows, caps that rise, a list of changed rows, and arrays of 128 entries, a list with one more
-pub record CanStep (us held caps sums changed list reached firsts : List ℕ) (n : ℕ) : Type 0 where
-  pub small : Small us
-  pub units-are : RowUnits us held (rowsOf us)
-  pub rise : CapsRise us caps
-  pub listed : Listed changed n (rowsOf us)
-  pub sums-long : length sums ≡ 128
-  pub changed-long : length changed ≡ 128
-  pub list-long : length list ≡ 129
-  pub reached-long : length reached ≡ 128
-  pub firsts-long : length firsts ≡ 128
-
--- a step: the first n rows of a list offer their floors, the best offers become the sums, and first sums are noted
-pub record Stepped (l : Layer) (rows : ℕ) (changed : List ℕ) (n step : ℕ) (reached firsts sums′ changed′ reached′ firsts′ : List ℕ) (n′ : ℕ) : Type 0 where
-  pub next : List ℕ
-  pub offers : Offers (offered l changed n) rows (replicate 128 mark) next
-  pub over : TakenOver next (l .sums) sums′ changed′ n′ rows
-  pub steps : PutAll (λ _. step) next (l .sums) reached reached′ rows
-  pub firsts-are : PutAll (λ a. getD next a 0) next (l .sums) firsts firsts′ rows
-
--- ---- all steps
-
--- one of the first n rows of a list ends the search one step on: row 0 can pay its sum, and its floor is 0
-pub record Arrival (caps floors sums changed : List ℕ) (n : ℕ) : Type 0 where
-  pub index : ℕ
-  pub below : index < n
-  pub affords : sumAt sums (getD changed index 0) ≤ getD caps 0 0
-  pub free : getD floors (getD changed index 0) 0 ≡ 0
-
--- the answer whether one of them does
-pub record Arrives (caps floors sums changed : List ℕ) (n : ℕ) (r : Bool) : Type 0 where
-  pub found : r ≡ true → Arrival caps floors sums changed n
-  pub none : r ≡ false → Arrival caps floors sums changed n → ⊥
+-- ---- the rows that are reached
 
 -- no step reaches the row
 abbrev pub never : ℕ
 never = 65535
 
--- the arrays before the first step: the price at the last row, reached with no step, which has changed
-pub record Begun (t : Terms) (sums changed reached firsts : List ℕ) : Type 0 where
-  pub sums-are : sums ≡ set (replicate 128 mark) (t .rows - 1) (t .sides .price)
-  pub changed-are : changed ≡ set (replicate 128 0) 0 (t .rows - 1)
-  pub reached-are : reached ≡ set (replicate 128 never) (t .rows - 1) 0
-  pub firsts-are : firsts ≡ sums
+-- for each row the step in which it is reached and its first sum, and the rows in the order in which they are reached
+pub record Notes : Type 0 where
+  pub reached : List ℕ
+  pub firsts : List ℕ
+  pub found : List ℕ
 
--- an array has what each row needs to end in j steps
-abbrev pub Needs : Work → ℕ → List ℕ → Type 0
-Needs w j sums = (a : ℕ) → a ≤ w .last → getD sums a 0 ≡ need w mark j a
+-- the same, from these lists
+abbrev pub notes : List ℕ → List ℕ → List ℕ → Notes
+notes reached firsts found = record { reached = reached; firsts = firsts; found = found }
+
+-- arrays of 128 entries; `end` rows are reached
+pub record Kept (r : Notes) (end : ℕ) : Type 0 where
+  pub reached-long : length (r .reached) ≡ 128
+  pub firsts-long : length (r .firsts) ≡ 128
+  pub found-long : length (r .found) ≡ 128
+  pub counted : end ≡ below never (r .reached) 128
+
+-- row a is as it was
+pub record Same (r r′ : Notes) (a : ℕ) : Type 0 where
+  pub step-same : getD (r′ .reached) a 0 ≡ getD (r .reached) a 0
+  pub first-same : getD (r′ .firsts) a 0 ≡ getD (r .firsts) a 0
+
+-- row a is reached in this step by its offer, and stands behind the first `end` rows
+pub record New (next : List ℕ) (step end : ℕ) (r′ : Notes) (m a : ℕ) : Type 0 where
+  pub step-is : getD (r′ .reached) a 0 ≡ step
+  pub first-is : getD (r′ .firsts) a 0 ≡ getD next a 0
+  pub index : ℕ
+  pub begin : end ≤ index
+  pub below : index < m
+  pub entry : getD (r′ .found) index 0 ≡ a
+
+-- the first n rows of a list were gone through: those that were not reached are now
+pub record Noting (next list : List ℕ) (step end : ℕ) (r r′ : Notes) (n m : ℕ) : Type 0 where
+  pub kept : Kept r′ m
+  pub more : end ≤ m
+  pub had : (a : ℕ) → getD (r .reached) a 0 < never → Same r r′ a
+  pub waited : (a : ℕ) → never ≤ getD (r .reached) a 0
+      → (Same r r′ a × (Among list n a → ⊥)) ⊎ (New next step end r′ m a × Among list n a)
+  pub found-kept : (i : ℕ) → i < end → getD (r′ .found) i 0 ≡ getD (r .found) i 0
+  pub found-new : (i : ℕ) → end ≤ i → i < m → Among list n (getD (r′ .found) i 0) × (getD (r′ .reached) (getD (r′ .found) i 0) 0 ≡ step)
+
+-- each row that has an offer and was not reached is now; the others are as they were
+pub record Noted (next : List ℕ) (step end : ℕ) (r r′ : Notes) (m rows : ℕ) : Type 0 where
+  pub kept : Kept r′ m
+  pub more : end ≤ m
+  pub had : (a : ℕ) → getD (r .reached) a 0 < never → Same r r′ a
+  pub new : (a : ℕ) → a < rows → never ≤ getD (r .reached) a 0 → getD next a 0 < mark → New next step end r′ m a
+  pub waits : (a : ℕ) → a < rows → never ≤ getD (r .reached) a 0 → mark ≤ getD next a 0 → Same r r′ a
+  pub found-kept : (i : ℕ) → i < end → getD (r′ .found) i 0 ≡ getD (r .found) i 0
+  pub found-new : (i : ℕ) → end ≤ i → i < m → (getD (r′ .found) i 0 < rows) × (getD (r′ .reached) (getD (r′ .found) i 0) 0 ≡ step)
+
+-- what a step asks: what its offers ask, the rows of the window, the arrays of the rows, and a list with a place more
+pub record CanStep (us strides held caps floors list : List ℕ) (r : Notes) (v : Window) : Type 0 where
+  pub can-offer : CanOffer us strides held caps
+  pub offerers : Offerers floors (r .found) v (rowsOf us)
+  pub kept : Kept r (v .end)
+  pub list-long : length list ≡ 129
+
+-- a step: the rows of the window offer their floors, and the rows that take an offer are reached
+pub record Stepped (us caps : List ℕ) (f : Front) (step : ℕ) (reached : List ℕ) (r′ : Notes) (m : ℕ) : Type 0 where
+  pub next : List ℕ
+  pub offered : Offered us caps f (f .window .end) next
+  pub noted : Noted next step (f .window .end) (notes reached (f .firsts) (f .found)) r′ m (rowsOf us)
+
+-- ---- all steps
+
+-- a row of the window, before the n-th, ends the search one step on: row 0 can pay what it needs, and its floor is 0
+pub record Arrival (caps : List ℕ) (f : Front) (n : ℕ) : Type 0 where
+  pub index : ℕ
+  pub begin : f .window .from ≤ index
+  pub below : index < n
+  pub affords : needAt f index ≤ getD caps 0 0
+  pub free : floorOf f index ≡ 0
+
+-- the answer whether one of the window does
+pub record Arrives (caps : List ℕ) (f : Front) (r : Bool) : Type 0 where
+  pub found : r ≡ true → Arrival caps f (f .window .end)
+  pub none : r ≡ false → Arrival caps f (f .window .end) → ⊥
+
+-- the arrays before the first step: the last row is reached with no step, and its first sum is the price
+pub record Begun (t : Terms) (r : Notes) : Type 0 where
+  pub reached-are : r .reached ≡ set (replicate 128 never) (t .rows - 1) 0
+  pub firsts-are : r .firsts ≡ set (replicate 128 mark) (t .rows - 1) (t .sides .price)
+  pub found-are : r .found ≡ set (replicate 128 0) 0 (t .rows - 1)
 
 -- what row b needs to end in j steps: nothing suffices before it is reached; then its first sum, and with more steps its floor
 abbrev pub needRead : List ℕ → List ℕ → List ℕ → ℕ → ℕ → ℕ

@@ -1,13 +1,14 @@
 // The search, backwards: the least sum paid at each row from which the end is reached, step by step.
 ghost use mathlib.Core.Path.{_≡_};
-ghost use mathlib.Core.Bool.{cond, _&&_};
-ghost use Prim.Native.Nat.{_+_, _-_, _<_, _≤_};
+ghost use mathlib.Core.Bool.{cond};
+ghost use Prim.Native.Nat.{ℕ, _+_, _-_, _<_, _≤_, min};
 ghost use lib.Dec.{ltb};
-ghost use lib.ListN.{length, set, replicate};
+ghost use lib.ListN.{length, getD, set, replicate};
 ghost use Rattle.grid.specs.Rows.{rowsOf};
 ghost use Rattle.grid.specs.Units.{Small, RowUnits};
+ghost use Rattle.grid.specs.Below.{Strides};
 ghost use Rattle.held.specs.Down.{CapsRise};
-ghost use Rattle.search.specs.Layers.{mark, never, rowsWork, Searchable, layer, offerTo, offered, Offers, Listed, Listing, RowListed, Taken, Reversed, Noted, CanStep, Stepped, Arrives, Counted};
+ghost use Rattle.search.specs.Layers.{mark, never, rowsWork, Searchable, notes, front, offerTo, Offers, Offered, Offerers, Listing, RowListed, CanOffer, Kept, Noting, CanStep, Stepped, Arrives, Counted};
 use super::Terms;
 use super::UNREACHED;
 use super::limits::wide32;
@@ -15,53 +16,75 @@ use super::limits::wide32;
 // No step reaches the row.
 const NEVER: u16 = 65535;
 
+// Of the rows in the order in which they are reached, those that can offer something new. From `from` on stand the rows that were reached in
+// the step before the last one and now need their floor, from `fresh` up to `end` those reached in the last one, which need their first sum.
+struct Window {
+    from: usize,
+    fresh: usize,
+    end: usize,
+}
+
+// The window after one more step, with so many rows reached.
+fn moved_on(v: Window, end: usize) -> Window
+    ensures { λ r. ⌜ r ≡ record { from = v .fresh; fresh = v .end; end = end } ⌝ }
+{
+    Window {
+        from: v.fresh,
+        fresh: v.end,
+        end,
+    }
+}
+
 fn wide8(x: u8) -> usize
     ensures { λ r. ⌜ r ≡ x ⌝ }
 {
     x as usize
 }
 
-// The best offer of a row once it is offered a floor: it takes one that is below its sum and below its best offer so far.
-fn better(floor: u64, sum: u64, best: u64) -> u64
-    ensures { λ r. ⌜ r ≡ cond (ltb floor sum && ltb floor best) floor best ⌝ }
+fn lesser(a: u64, b: u64) -> u64
+    ensures { λ r. ⌜ r ≡ min a b ⌝ }
 {
-    if sum <= floor {
-        return best;
-    }
-    if floor < best { floor } else { best }
+    if a < b { a } else { b }
 }
 
-// Lists row a if its best offer is below the mark now and was not before. It is written to the list in any case, which has a place more for that: no
-// one reads behind the listed rows, and a test would be hard to predict. The answer is the length of the list.
-fn list_row(list: &mut [u8; 129], n: usize, a: usize, before: u64, after: u64) -> usize
+// What row b, the i-th that was reached, needs.
+fn need_of(floors: &[u64; 128], firsts: &[u64; 128], fresh: usize, i: usize, b: usize) -> u64
+    requires { ⌜ b < 128 ⌝ }
+    ensures { λ r. ⌜ r ≡ cond (ltb i fresh) (getD (now (floors .entry)) b 0) (getD (now (firsts .entry)) b 0) ⌝ }
+{
+    if i < fresh {
+        return floors[b];
+    }
+    firsts[b]
+}
+
+// Lists row a if it had no offer in this step. It is written to the list in any case, which has a place more for that: no one reads behind the
+// listed rows, and a test would be hard to predict. The answer is the length of the list.
+fn list_row(list: &mut [u8; 129], n: usize, a: usize, before: u64) -> usize
     requires { ⌜ (a < 128) × (n ≤ 128) ⌝ }
-    ensures { λ r. ⌜ RowListed (now (list .entry)) n a before after (now (list .exit)) r ⌝ }
+    ensures { λ r. ⌜ RowListed (now (list .entry)) n a before (now (list .exit)) r ⌝ }
 {
     list[n] = a as u8;
-    if before < UNREACHED {
-        return n;
-    }
-    if after < UNREACHED { n + 1 } else { n }
+    if before < UNREACHED { n } else { n + 1 }
 }
 
-// Row b offers its floor to the rows that it holds and that can pay what it needs, from itself down. Lists the rows that take their first
+// Row b offers its floor to the rows that it holds and that can pay what it needs, from itself down. Lists the rows that have their first
 // offer, behind the n that the list has. The answer is the length of the list.
 fn offer(
     units: &[u16],
+    strides: &[usize; 4],
     held: &[u32; 128],
     caps: &[u64; 128],
-    floors: &[u64; 128],
-    sums: &[u64; 128],
     b: usize,
+    need: u64,
+    floor: u64,
     next: &mut [u64; 128],
     list: &mut [u8; 129],
     n: usize,
 ) -> usize
-    requires { ⌜ Small (now units) × RowUnits (now units) (now held) (rowsOf (now units)) × CapsRise (now units) (now caps) × (b < rowsOf (now units)) × Listing (now next) (now list) n (rowsOf (now units)) ⌝ }
-    ensures { λ r. ⌜ Offers (offerTo (layer (now (units .entry)) (now (caps .entry)) (now (floors .entry)) (now (sums .entry))) b) (rowsOf (now (units .entry))) (now (next .entry)) (now (next .exit)) × Listing (now (next .exit)) (now (list .exit)) r (rowsOf (now (units .entry))) ⌝ }
+    requires { ⌜ CanOffer (now units) (now strides) (now held) (now caps) × (b < rowsOf (now units)) × (floor < mark) × Listing (now next) (now list) n (rowsOf (now units)) ⌝ }
+    ensures { λ r. ⌜ Offers (offerTo (now (units .entry)) (now (caps .entry)) b need floor) (rowsOf (now (units .entry))) (now (next .entry)) (now (next .exit)) × Listing (now (next .exit)) (now (list .exit)) r (rowsOf (now (units .entry))) ⌝ }
 {
-    let need = sums[b];
-    let floor = floors[b];
     if caps[b] < need {
         return n;
     }
@@ -69,85 +92,82 @@ fn offer(
     let mut k = b + 1;
     while 0 < k {
         let a = k - 1;
-        k = held::next_down(units, held, caps, a, b, need);
+        k = held::next_down(units, strides, held, caps, a, b, need);
         let best = next[a];
-        let new = better(floor, sums[a], best);
-        next[a] = new;
-        count = list_row(list, count, a, best, new);
+        next[a] = lesser(floor, best);
+        count = list_row(list, count, a, best);
     }
     count
 }
 
-// Each of the changed rows, the first n of their list, offers its floor. Lists the rows that take an offer; the answer is their number.
+// Each row of the window offers its floor. Lists the rows that have an offer; the answer is their number.
 fn offer_all(
     units: &[u16],
+    strides: &[usize; 4],
     held: &[u32; 128],
     caps: &[u64; 128],
     floors: &[u64; 128],
-    sums: &[u64; 128],
-    changed: &[u8; 128],
-    n: usize,
+    firsts: &[u64; 128],
+    found: &[u8; 128],
+    v: Window,
     next: &mut [u64; 128],
     list: &mut [u8; 129],
 ) -> usize
-    requires { ⌜ Small (now units) × RowUnits (now units) (now held) (rowsOf (now units)) × CapsRise (now units) (now caps) × Listed (now changed) n (rowsOf (now units)) × Listing (now next) (now list) 0 (rowsOf (now units)) ⌝ }
-    ensures { λ r. ⌜ Offers (offered (layer (now (units .entry)) (now (caps .entry)) (now (floors .entry)) (now (sums .entry))) (now (changed .entry)) n) (rowsOf (now (units .entry))) (now (next .entry)) (now (next .exit)) × Listing (now (next .exit)) (now (list .exit)) r (rowsOf (now (units .entry))) ⌝ }
+    requires { ⌜ CanOffer (now units) (now strides) (now held) (now caps) × Offerers (now floors) (now found) v (rowsOf (now units)) × (now next ≡ replicate 128 mark) × (length (now list) ≡ 129) ⌝ }
+    ensures { λ r. ⌜ Offered (now (units .entry)) (now (caps .entry)) (front (now (floors .entry)) (now (firsts .entry)) (now (found .entry)) v) (v .end) (now (next .exit)) × Listing (now (next .exit)) (now (list .exit)) r (rowsOf (now (units .entry))) ⌝ }
 {
     let mut count: usize = 0;
-    let mut i: usize = 0;
-    while i < n {
-        let b = wide8(changed[i]);
-        count = offer(units, held, caps, floors, sums, b, next, list, count);
+    let mut i = v.from;
+    while i < v.end {
+        let b = wide8(found[i]);
+        let need = need_of(floors, firsts, v.fresh, i, b);
+        count = offer(
+            units,
+            strides,
+            held,
+            caps,
+            b,
+            need,
+            floors[b],
+            next,
+            list,
+            count,
+        );
         i += 1;
     }
     count
 }
 
-// The offers of the first n rows of the list become their sums, and the list, reversed, that of the changed rows: an offer goes from the last
-// row to the first, and the rows with the least floors should offer first, so that fewer offers are taken.
-fn take_over(
+// Of the first n rows of the list those that were not reached before are now: the step is noted, the offer as their first sum, and the row behind
+// the `end` rows that were. The answer is how many are reached then. With one step more such a row needs its floor, since that step can stay
+// there and pay, and it never needs less: so it takes no later offer.
+fn note(
     next: &[u64; 128],
     list: &[u8; 129],
     n: usize,
-    sums: &mut [u64; 128],
-    changed: &mut [u8; 128],
-)
-    requires { ⌜ Listed (now list) n 128 × (length (now sums) ≡ 128) × (length (now changed) ≡ 128) ⌝ }
-    ensures { λ _. ⌜ Taken (now (next .entry)) (now (list .entry)) (now (sums .entry)) (now (sums .exit)) n × Reversed (now (list .entry)) (now (changed .exit)) n n ⌝ }
+    step: u16,
+    end: usize,
+    reached: &mut [u16; 128],
+    firsts: &mut [u64; 128],
+    found: &mut [u8; 128],
+) -> usize
+    requires { ⌜ Kept (notes (now reached) (now firsts) (now found)) end × (n ≤ 128) × ((i : ℕ) → i < n → getD (now list) i 0 < 128) × (step < never) ⌝ }
+    ensures { λ m. ⌜ Noting (now (next .entry)) (now (list .entry)) step end (notes (now (reached .entry)) (now (firsts .entry)) (now (found .entry))) (notes (now (reached .exit)) (now (firsts .exit)) (now (found .exit))) n m ⌝ }
 {
+    let mut m = end;
     let mut i: usize = 0;
     while i < n {
         let row = list[i];
         let a = wide8(row);
-        sums[a] = next[a];
         i += 1;
-        changed[n - i] = row;
-    }
-}
-
-// Notes the step and the offer of those of the first n rows of the list that had no sum. A row's sum changes at most once more: with one
-// step more it is the floor of the row, since that step can stay there and pay.
-fn note(
-    next: &[u64; 128],
-    sums: &[u64; 128],
-    list: &[u8; 129],
-    n: usize,
-    step: u16,
-    reached: &mut [u16; 128],
-    firsts: &mut [u64; 128],
-)
-    requires { ⌜ Listed (now list) n 128 × (length (now reached) ≡ 128) × (length (now firsts) ≡ 128) ⌝ }
-    ensures { λ _. ⌜ Noted (now (next .entry)) (now (sums .entry)) (now (list .entry)) step (now (reached .entry)) (now (firsts .entry)) (now (reached .exit)) (now (firsts .exit)) n ⌝ }
-{
-    let mut i: usize = 0;
-    while i < n {
-        let a = wide8(list[i]);
-        i += 1;
-        if UNREACHED <= sums[a] {
+        if NEVER <= reached[a] {
             reached[a] = step;
             firsts[a] = next[a];
+            found[m] = row;
+            m += 1;
         }
     }
+    m
 }
 
 // The sums of no step: the price at the last row.
@@ -172,59 +192,67 @@ pub(crate) fn first_reached(t: Terms) -> [u16; 128]
     reached
 }
 
-// The list of the changed rows before the first step: the last row.
-fn first_changed(t: Terms) -> [u8; 128]
+// The rows that are reached before the first step: the last row.
+fn first_found(t: Terms) -> [u8; 128]
     requires { ⌜ (1 < t .rows) × (t .rows ≤ 128) ⌝ }
     ensures { λ r. ⌜ r ≡ set (replicate 128 0) 0 (t .rows - 1) ⌝ }
 {
-    let mut changed = [0u8; 128];
+    let mut found = [0u8; 128];
     let last = t.rows - 1;
-    changed[0] = last as u8;
-    changed
+    found[0] = last as u8;
+    found
 }
 
-// One step of the search: the changed rows, the first n of their list, offer their floors, and the best offers become the sums. The answer
-// is the number of rows that have changed then.
+// One step of the search: the rows of the window offer their floors, and the rows that take an offer are reached. The answer is how many are
+// reached then.
 fn step(
     units: &[u16],
+    strides: &[usize; 4],
     held: &[u32; 128],
     caps: &[u64; 128],
     floors: &[u64; 128],
-    sums: &mut [u64; 128],
-    changed: &mut [u8; 128],
-    list: &mut [u8; 129],
-    n: usize,
+    v: Window,
     number: u16,
+    list: &mut [u8; 129],
     reached: &mut [u16; 128],
     firsts: &mut [u64; 128],
+    found: &mut [u8; 128],
 ) -> usize
-    requires { ⌜ CanStep (now units) (now held) (now caps) (now sums) (now changed) (now list) (now reached) (now firsts) n ⌝ }
-    ensures { λ r. ⌜ Stepped (layer (now (units .entry)) (now (caps .entry)) (now (floors .entry)) (now (sums .entry))) (rowsOf (now (units .entry))) (now (changed .entry)) n number (now (reached .entry)) (now (firsts .entry)) (now (sums .exit)) (now (changed .exit)) (now (reached .exit)) (now (firsts .exit)) r × (length (now (list .exit)) ≡ 129) ⌝ }
+    requires { ⌜ CanStep (now units) (now strides) (now held) (now caps) (now floors) (now list) (notes (now reached) (now firsts) (now found)) v × (number < never) ⌝ }
+    ensures { λ m. ⌜ Stepped (now (units .entry)) (now (caps .entry)) (front (now (floors .entry)) (now (firsts .entry)) (now (found .entry)) v) number (now (reached .entry)) (notes (now (reached .exit)) (now (firsts .exit)) (now (found .exit))) m × (length (now (list .exit)) ≡ 129) ⌝ }
 {
     let mut next = [UNREACHED; 128];
-    let count = offer_all(units, held, caps, floors, sums, changed, n, &mut next, list);
-    note(&next, sums, list, count, number, reached, firsts);
-    take_over(&next, list, count, sums, changed);
-    count
+    let n = offer_all(
+        units,
+        strides,
+        held,
+        caps,
+        floors,
+        firsts,
+        found,
+        v,
+        &mut next,
+        list,
+    );
+    note(&next, list, n, number, v.end, reached, firsts, found)
 }
 
-// Whether a changed row, one of the first n of their list, ends the search one step on: row 0 can pay its sum, and its floor is 0. Every
-// row holds the units of row 0.
+// Whether a row of the window ends the search one step on: row 0 can pay what it needs, and its floor is 0. Every row holds the units of row 0.
 fn arrives(
     caps: &[u64; 128],
     floors: &[u64; 128],
-    sums: &[u64; 128],
-    changed: &[u8; 128],
-    n: usize,
+    firsts: &[u64; 128],
+    found: &[u8; 128],
+    v: Window,
 ) -> bool
-    requires { ⌜ Listed (now changed) n 128 ⌝ }
-    ensures { λ r. ⌜ Arrives (now (caps .entry)) (now (floors .entry)) (now (sums .entry)) (now (changed .entry)) n r ⌝ }
+    requires { ⌜ (v .end ≤ 128) × ((i : ℕ) → i < v .end → getD (now found) i 0 < 128) ⌝ }
+    ensures { λ r. ⌜ Arrives (now (caps .entry)) (front (now (floors .entry)) (now (firsts .entry)) (now (found .entry)) v) r ⌝ }
 {
     let cap = caps[0];
-    let mut i: usize = 0;
-    while i < n {
-        let b = wide8(changed[i]);
-        if sums[b] <= cap {
+    let mut i = v.from;
+    while i < v.end {
+        let b = wide8(found[i]);
+        if need_of(floors, firsts, v.fresh, i, b) <= cap {
             if floors[b] == 0 {
                 return true;
             }
@@ -249,30 +277,35 @@ pub(crate) fn count_steps(
     requires { ⌜ Searchable t (now units) (now held) (now caps) (now floors) × (most < never) × (now reached ≡ set (replicate 128 never) (t .rows - 1) 0) × (now firsts ≡ set (replicate 128 mark) (t .rows - 1) (t .sides .price)) ⌝ }
     ensures { λ r. ⌜ Counted (rowsWork t (now (units .entry)) (now (caps .entry)) (now (floors .entry))) most (now (reached .exit)) (now (firsts .exit)) (now (floors .entry)) r ⌝ }
 {
-    let mut sums = first_sums(t);
-    let mut changed = first_changed(t);
+    let strides = grid::strides_of(units);
+    let mut found = first_found(t);
     let mut list = [0u8; 129];
-    let mut n: usize = 1;
+    let mut v = Window {
+        from: 0,
+        fresh: 0,
+        end: 1,
+    };
     let mut j: usize = 0;
     while j < most {
-        if arrives(caps, floors, &sums, &changed, n) {
+        if arrives(caps, floors, firsts, &found, v) {
             return j + 1;
         }
         j += 1;
-        n = step(
+        let end = step(
             units,
+            &strides,
             held,
             caps,
             floors,
-            &mut sums,
-            &mut changed,
-            &mut list,
-            n,
+            v,
             j as u16,
+            &mut list,
             reached,
             firsts,
+            &mut found,
         );
-        if n == 0 {
+        v = moved_on(v, end);
+        if v.from == v.end {
             return most + 1;
         }
     }

@@ -29,7 +29,7 @@ struct Terms {
 }
 
 // Above every price: the sum of a row from which the end is not reached.
-const UNREACHED: u64 = 4294967296;
+const UNREACHED: u64 = 18446744073709551615;
 
 fn wide16(x: u16) -> usize
     ensures { λ r. ⌜ (r ≡ x) × (r < 65536) ⌝ }

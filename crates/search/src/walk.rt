@@ -1,11 +1,11 @@
 // Reads the plan forwards: what each row needs is known from the search.
 ghost use mathlib.Core.Path.{_≡_};
 ghost use mathlib.Core.Bool.{_&&_};
-ghost use Prim.Native.Nat.{_<_, _≤_};
+ghost use Prim.Native.Nat.{_<_, _≤_, _^_};
 ghost use lib.Dec.{leb};
 ghost use lib.ListN.{getD};
 ghost use Rattle.held.specs.Words.{holdsWord};
-ghost use Rattle.search.specs.Layers.{mark, rowsWork, Searchable, needRead, firstRow, CanWalk, Walked};
+ghost use Rattle.search.specs.Layers.{rowsWork, Searchable, needRead, firstRow, CanWalk, Walked};
 use super::Terms;
 use super::UNREACHED;
 use super::limits::wide32;
@@ -34,7 +34,7 @@ fn need_after(
 
 // The most that is paid at a row.
 fn cap_at(caps: &[u64; 128], a: usize) -> u32
-    requires { ⌜ (a < 128) × (getD (now caps) a 0 < mark) ⌝ }
+    requires { ⌜ (a < 128) × (getD (now caps) a 0 < 2 ^ 32) ⌝ }
     ensures { λ r. ⌜ r ≡ getD (now (caps .entry)) a 0 ⌝ }
 {
     caps[a] as u32

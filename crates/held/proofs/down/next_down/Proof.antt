@@ -1,128 +1,119 @@
 use borrow.Author.Needs.{needs}
-use mathlib.Core.Path.{refl, sym, _∙_}
-use Prim.Native.Nat.{_-_}
+use mathlib.Core.Path.{refl}
+use Prim.Native.Nat.{ℕ, _-_}
 use native.Mathlib.Omega.{arith}
 use denote.Ref.{now}
-use lib.ListN.{getD}
-use Rattle.held.proofs.WordLaws.{Bytes, bytes-start, bytes-unit, bytes-next}
-use Rattle.held.proofs.DownLaws.{Descending, descending-start, descending-found, descending-next, descending-none, stride-few, full-rows, row-high, row-low, less-low, less-below, less-passes}
+use lib.ListN.{length, getD}
+use Rattle.held.proofs.DownLaws.{Descending, descending-start, first-byte, level-asks, level-found, level-none, level-last, level-fits, level-next}
 use Rattle.held.proofs.down.next_down.Statement.{statement}
 use Rattle.held.proofs.down.next_down.Tie as tie
 
-abbrev Inv-loop : tie.InvT-loop
-Inv-loop units held caps a b need p₀ q₀ row₀ stride₀ j₀ p q row stride j = Descending units caps b need a j stride row × Bytes units a j p × Bytes units b j q
+-- i items are tried, and row has of them the units of row b
+abbrev Level : tie.Start → ℕ → ℕ → Type 0
+Level s i row = Descending (now (s .args .units)) (now (s .args .caps)) (s .args .b) (s .args .need) (s .args .a) (length (now (s .args .units)) - i) (getD (now (s .args .strides)) i 0) row
 
-abbrev μ-loop : tie.MeasureT-loop
-μ-loop units held caps a b need p₀ q₀ row₀ stride₀ j₀ p q row stride j = j
+level1 : (c : tie.After-put-back) → Level (c .before .before .before .before .before .before .before) 1 (c .put-back .result)
+level1 c = level-next (c .before .before .before .before .before .before .before .pre) 0 (descending-start _ _ _ _ _) (first-byte _) (c .before .if2 .left) (first-byte _) (c .before .before .before .one-less .ensures) (c .before .before .if1 .left) (c .put-back .ensures)
 
-mul-p : tie.Need-mul-p Inv-loop μ-loop
-mul-p c = search needs
+level2 : (c : tie.After-put-back2) → Level (c .before .before .before .before .before .before .before .before .before .before .before .before .before) 2 (c .put-back2 .result)
+level2 c = level-next (c .before .before .before .before .before .before .before .before .before .before .before .before .before .pre) 1 (level1 (c .before .before .before .before .before .before)) refl (c .before .before .if4 .left) refl (c .before .before .before .before .one-less2 .ensures) (c .before .before .before .if3 .left) (c .put-back2 .ensures)
 
-element-copy-out-p : tie.Need-element-copy-out-p Inv-loop μ-loop
-element-copy-out-p c = omega (arith, c .before .pre .1 .few, c .before .pre .3)
+level3 : (c : tie.After-put-back3) → Level (c .before .before .before .before .before .before .before .before .before .before .before .before .before .before .before .before .before .before .before) 3 (c .put-back3 .result)
+level3 c = level-next (c .before .before .before .before .before .before .before .before .before .before .before .before .before .before .before .before .before .before .before .pre) 2 (level2 (c .before .before .before .before .before .before)) refl (c .before .before .if6 .left) refl (c .before .before .before .before .one-less3 .ensures) (c .before .before .before .if5 .left) (c .put-back3 .ensures)
 
-mul-q : tie.Need-mul-q Inv-loop μ-loop
-mul-q c = search needs
+mul-less : tie.Need-mul-less
+mul-less c = search needs
 
-element-copy-out-q : tie.Need-element-copy-out-q Inv-loop μ-loop
-element-copy-out-q c = omega (arith, c .before .before .pre .1 .few, c .before .before .pre .4)
+element-copy-out-less : tie.Need-element-copy-out-less
+element-copy-out-less c = search needs
 
-loop-holds : tie.Need-loop-holds Inv-loop μ-loop
-loop-holds c = (descending-start (now (c .before .before .before .args .units)) (now (c .before .before .before .args .caps)) (c .before .before .before .args .b) (c .before .before .before .args .need) (c .before .before .before .args .a), bytes-start _ _ _ (c .before .before .before .pre .1 .word-at _ (c .before .before .before .pre .3)), bytes-start _ _ _ (c .before .before .before .pre .1 .word-at _ (c .before .before .before .pre .4)))
+mul-more : tie.Need-mul-more
+mul-more c = search needs
 
-sub-j : tie.Need-sub-j Inv-loop μ-loop
-sub-j c = search needs
+element-copy-out-more : tie.Need-element-copy-out-more
+element-copy-out-more c = search needs
 
-low-byte-requires : tie.Need-low-byte-requires Inv-loop μ-loop
-low-byte-requires c κs = search needs
+one-less-requires : tie.Need-one-less-requires
+one-less-requires c κs = level-asks (c .before .before .before .pre) 0 (descending-start _ _ _ _ _) (first-byte _)
 
-pays-less-requires : tie.Need-pays-less-requires Inv-loop μ-loop
-pays-less-requires c κs = (
-  λ u. less-low (c .before .before .loop .inv .0) (c .before .loop-test .taken) (c .low-byte .result) (c .low-byte .ensures .0 ∙ bytes-unit (c .before .before .loop .inv .1) (c .before .loop-test .taken) (c .before .before .before .before .before .before .pre .0)) u,
-  λ u. omega (arith, less-below (c .before .before .loop .inv .0) (c .before .loop-test .taken) (c .low-byte .result) (c .low-byte .ensures .0 ∙ bytes-unit (c .before .before .loop .inv .1) (c .before .loop-test .taken) (c .before .before .before .before .before .before .pre .0)) u, c .before .before .before .before .before .before .pre .3, c .before .before .before .before .before .before .pre .1 .few),
-)
+returns : tie.Need-returns
+returns c = level-found (c .before .before .before .before .before .pre) 0 (descending-start _ _ _ _ _) (first-byte _) (c .before .one-less .ensures) (c .if1 .taken)
 
-sub-result : tie.Need-sub-result Inv-loop μ-loop
-sub-result c = less-low (c .before .before .before .before .loop .inv .0) (c .before .before .before .loop-test .taken) (c .before .before .low-byte .result) (c .before .before .low-byte .ensures .0 ∙ bytes-unit (c .before .before .before .before .loop .inv .1) (c .before .before .before .loop-test .taken) (c .before .before .before .before .before .before .before .before .pre .0)) ((less-passes (c .before .before .low-byte .result) (c .before .before .before .before .before .before .before .before .args .need) (getD (now (c .before .before .before .before .before .before .before .before .args .caps)) (c .before .before .before .before .loop .row - c .before .before .before .before .loop .stride) 0) (sym (c .if1 .taken) ∙ c .before .pays-less .ensures)) .0)
+returns-2 : tie.Need-returns-2
+returns-2 c = level-none (c .before .before .before .before .before .before .pre) 0 (descending-start _ _ _ _ _) (first-byte _) (c .before .before .one-less .ensures) (c .before .if1 .left) (c .if2 .taken)
 
-add-result : tie.Need-add-result Inv-loop μ-loop
-add-result c = omega (arith, less-below (c .before .before .before .before .loop .inv .0) (c .before .before .before .loop-test .taken) (c .before .before .low-byte .result) (c .before .before .low-byte .ensures .0 ∙ bytes-unit (c .before .before .before .before .loop .inv .1) (c .before .before .before .loop-test .taken) (c .before .before .before .before .before .before .before .before .pre .0)) ((less-passes (c .before .before .low-byte .result) (c .before .before .before .before .before .before .before .before .args .need) (getD (now (c .before .before .before .before .before .before .before .before .args .caps)) (c .before .before .before .before .loop .row - c .before .before .before .before .loop .stride) 0) (sym (c .if1 .taken) ∙ c .before .pays-less .ensures)) .0), c .before .before .before .before .before .before .before .before .pre .3, c .before .before .before .before .before .before .before .before .pre .1 .few)
+put-back-requires : tie.Need-put-back-requires
+put-back-requires c κs = level-fits (c .before .before .before .before .before .before .pre) 0 (descending-start _ _ _ _ _) (first-byte _) (c .if2 .left) (first-byte _)
 
-returns : tie.Need-returns Inv-loop μ-loop
-returns c = let x = less-passes _ _ _ (sym (c .if1 .taken) ∙ c .before .pays-less .ensures) in
-    descending-found (c .before .before .before .before .loop .inv .0) (c .before .before .before .loop-test .taken) (c .before .before .low-byte .result) (c .before .before .low-byte .ensures .0 ∙ bytes-unit (c .before .before .before .before .loop .inv .1) (c .before .before .before .loop-test .taken) (c .before .before .before .before .before .before .before .before .pre .0)) (x .0) (c .before .before .before .before .before .before .before .before .pre .5 .held) (x .1)
+element-copy-out-one-less : tie.Need-element-copy-out-one-less
+element-copy-out-one-less c = search needs
 
-low-byte-requires-2 : tie.Need-low-byte-requires-2 Inv-loop μ-loop
-low-byte-requires-2 c κs = search needs
+one-less-requires-2 : tie.Need-one-less-requires-2
+one-less-requires-2 c κs = level-asks (c .before .before .before .before .before .before .before .before .pre) 1 (level1 (c .before)) refl
 
-mul-row : tie.Need-mul-row Inv-loop μ-loop
-mul-row c = omega (arith, full-rows (c .before .before .before .before .before .loop .inv .0) (c .before .before .before .before .loop-test .taken) (c .low-byte2 .result) (c .low-byte2 .ensures .0 ∙ bytes-unit (c .before .before .before .before .before .loop .inv .2) (c .before .before .before .before .loop-test .taken) (c .before .before .before .before .before .before .before .before .before .pre .0)), c .before .before .before .before .before .before .before .before .before .pre .4, c .before .before .before .before .before .before .before .before .before .pre .1 .few)
+returns-3 : tie.Need-returns-3
+returns-3 c = level-found (c .before .before .before .before .before .before .before .before .before .before .pre) 1 (level1 (c .before .before .before)) refl (c .before .one-less2 .ensures) (c .if3 .taken)
 
-add-row : tie.Need-add-row Inv-loop μ-loop
-add-row c = omega (arith, full-rows (c .before .before .before .before .before .loop .inv .0) (c .before .before .before .before .loop-test .taken) (c .low-byte2 .result) (c .low-byte2 .ensures .0 ∙ bytes-unit (c .before .before .before .before .before .loop .inv .2) (c .before .before .before .before .loop-test .taken) (c .before .before .before .before .before .before .before .before .before .pre .0)), row-high (c .before .before .before .before .before .loop .inv .0) (c .before .before .before .before .loop-test .taken), c .before .before .before .before .before .before .before .before .before .pre .3, c .before .before .before .before .before .before .before .before .before .pre .4, c .before .before .before .before .before .before .before .before .before .pre .1 .few)
+returns-4 : tie.Need-returns-4
+returns-4 c = level-none (c .before .before .before .before .before .before .before .before .before .before .before .pre) 1 (level1 (c .before .before .before .before)) refl (c .before .before .one-less2 .ensures) (c .before .if3 .left) (c .if4 .taken)
 
-mul-row-2 : tie.Need-mul-row-2 Inv-loop μ-loop
-mul-row-2 c = omega (arith, row-low (c .before .before .before .before .before .loop .inv .0) (c .before .before .before .before .loop-test .taken) (c .before .before .before .low-byte .result) (c .before .before .before .low-byte .ensures .0 ∙ bytes-unit (c .before .before .before .before .before .loop .inv .1) (c .before .before .before .before .loop-test .taken) (c .before .before .before .before .before .before .before .before .before .pre .0)), row-high (c .before .before .before .before .before .loop .inv .0) (c .before .before .before .before .loop-test .taken), c .before .before .before .before .before .before .before .before .before .pre .3, c .before .before .before .before .before .before .before .before .before .pre .4, c .before .before .before .before .before .before .before .before .before .pre .1 .few)
+element-copy-out-put-back : tie.Need-element-copy-out-put-back
+element-copy-out-put-back c = search needs
 
-sub-row : tie.Need-sub-row Inv-loop μ-loop
-sub-row c = omega (arith, row-low (c .before .before .before .before .before .loop .inv .0) (c .before .before .before .before .loop-test .taken) (c .before .before .before .low-byte .result) (c .before .before .before .low-byte .ensures .0 ∙ bytes-unit (c .before .before .before .before .before .loop .inv .1) (c .before .before .before .before .loop-test .taken) (c .before .before .before .before .before .before .before .before .before .pre .0)))
+put-back-requires-2 : tie.Need-put-back-requires-2
+put-back-requires-2 c κs = level-fits (c .before .before .before .before .before .before .before .before .before .before .before .before .pre) 1 (level1 (c .before .before .before .before .before)) refl (c .before .if4 .left) refl
 
-mul-wide16 : tie.Need-mul-wide16 Inv-loop μ-loop
-mul-wide16 c = search needs
+element-copy-out-one-less-2 : tie.Need-element-copy-out-one-less-2
+element-copy-out-one-less-2 c = search needs
 
-shared-slice-read-wide16 : tie.Need-shared-slice-read-wide16 Inv-loop μ-loop
-shared-slice-read-wide16 c = search needs
+one-less-requires-3 : tie.Need-one-less-requires-3
+one-less-requires-3 c κs = level-asks (c .before .before .before .before .before .before .before .before .before .before .before .before .before .before .pre) 2 (level2 (c .before)) refl
 
-wide16-requires : tie.Need-wide16-requires Inv-loop μ-loop
-wide16-requires c κs = search needs
+returns-5 : tie.Need-returns-5
+returns-5 c = level-found (c .before .before .before .before .before .before .before .before .before .before .before .before .before .before .before .before .pre) 2 (level2 (c .before .before .before)) refl (c .before .one-less3 .ensures) (c .if5 .taken)
 
-add-stride : tie.Need-add-stride Inv-loop μ-loop
-add-stride c = search needs
+returns-6 : tie.Need-returns-6
+returns-6 c = level-none (c .before .before .before .before .before .before .before .before .before .before .before .before .before .before .before .before .before .pre) 2 (level2 (c .before .before .before .before)) refl (c .before .before .one-less3 .ensures) (c .before .if5 .left) (c .if6 .taken)
 
-mul-stride : tie.Need-mul-stride Inv-loop μ-loop
-mul-stride c = rw (c .wide16 .ensures .0) (omega (arith, stride-few (c .before .before .before .before .before .before .before .loop .inv .0) (c .before .before .before .before .before .before .loop-test .taken) (c .before .before .before .before .before .before .before .before .before .before .before .pre .1 .few)))
+element-copy-out-put-back-2 : tie.Need-element-copy-out-put-back-2
+element-copy-out-put-back-2 c = search needs
 
-loop-less : tie.Need-loop-less Inv-loop μ-loop
-loop-less c = search needs
+put-back-requires-3 : tie.Need-put-back-requires-3
+put-back-requires-3 c κs = level-fits (c .before .before .before .before .before .before .before .before .before .before .before .before .before .before .before .before .before .before .pre) 2 (level2 (c .before .before .before .before .before)) refl (c .before .if6 .left) refl
 
-loop-again : tie.Need-loop-again Inv-loop μ-loop
-loop-again c = (
-  descending-next (c .before .before .before .before .before .before .before .loop .inv .0) (c .before .before .before .before .before .before .loop-test .taken) (c .before .before .before .before .before .low-byte .result) (c .before .before .before .before .before .low-byte .ensures .0 ∙ bytes-unit (c .before .before .before .before .before .before .before .loop .inv .1) (c .before .before .before .before .before .before .loop-test .taken) (c .before .before .before .before .before .before .before .before .before .before .before .pre .0)) (c .before .before .before .before .before .before .before .before .before .before .before .pre .2) (c .before .before .low-byte2 .result) _ _ (c .before .before .low-byte2 .ensures .0 ∙ bytes-unit (c .before .before .before .before .before .before .before .loop .inv .2) (c .before .before .before .before .before .before .loop-test .taken) (c .before .before .before .before .before .before .before .before .before .before .before .pre .0)) (c .before .before .before .before .before .before .before .before .before .before .before .pre .3)
-      (sym (c .before .before .before .if1 .left) ∙ c .before .before .before .before .pays-less .ensures) refl (rw (c .wide16 .ensures .0)),
-  bytes-next (c .before .before .before .before .before .before .before .loop .inv .1) (c .before .before .before .before .before .before .loop-test .taken),
-  bytes-next (c .before .before .before .before .before .before .before .loop .inv .2) (c .before .before .before .before .before .before .loop-test .taken),
-)
+element-copy-out-one-less-3 : tie.Need-element-copy-out-one-less-3
+element-copy-out-one-less-3 c = search needs
 
-returns-2 : tie.Need-returns-2 Inv-loop μ-loop
-returns-2 c = descending-none _ _ _ _ _ _ _ _ (c .before .loop .inv .0) (omega arith) (c .before .before .before .before .before .pre .3)
+one-less-requires-4 : tie.Need-one-less-requires-4
+one-less-requires-4 c κs = level-asks (c .before .before .before .before .before .before .before .before .before .before .before .before .before .before .before .before .before .before .before .before .pre) 3 (level3 (c .before)) refl
+
+returns-7 : tie.Need-returns-7
+returns-7 c = level-last (c .before .before .before .before .before .before .before .before .before .before .before .before .before .before .before .before .before .before .before .before .before .pre) 3 (level3 (c .before .before)) refl (c .one-less4 .ensures) (omega (arith, c .before .before .before .before .before .before .before .before .before .before .before .before .before .before .before .before .before .before .before .before .before .pre .0 .items))
 
 pub next-down-spec : {M : Type 1} → statement M
 next-down-spec =
     tie.close
     (tie.spec
-    Inv-loop
-    μ-loop
-    mul-p
-    element-copy-out-p
-    mul-q
-    element-copy-out-q
-    loop-holds
-    sub-j
-    low-byte-requires
-    pays-less-requires
-    sub-result
-    add-result
+    mul-less
+    element-copy-out-less
+    mul-more
+    element-copy-out-more
+    one-less-requires
     returns
-    low-byte-requires-2
-    mul-row
-    add-row
-    mul-row-2
-    sub-row
-    mul-wide16
-    shared-slice-read-wide16
-    wide16-requires
-    add-stride
-    mul-stride
-    loop-less
-    loop-again
-    returns-2)
+    returns-2
+    put-back-requires
+    element-copy-out-one-less
+    one-less-requires-2
+    returns-3
+    returns-4
+    element-copy-out-put-back
+    put-back-requires-2
+    element-copy-out-one-less-2
+    one-less-requires-3
+    returns-5
+    returns-6
+    element-copy-out-put-back-2
+    put-back-requires-3
+    element-copy-out-one-less-3
+    one-less-requires-4
+    returns-7)

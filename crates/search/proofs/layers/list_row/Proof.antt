@@ -17,11 +17,8 @@ add-result : tie.Need-add-result
 add-result c = search needs
 
 returns-2 : tie.Need-returns-2
-returns-2 c = record { list-is = refl; count-is = rw (le-ltb _ _ (c .before .if1 .left), lt-ltb _ _ (c .if2 .taken)) }
-
-returns-3 : tie.Need-returns-3
-returns-3 c = record { list-is = refl; count-is = rw (le-ltb _ _ (c .before .if1 .left), le-ltb _ _ (c .if2 .left)) }
+returns-2 c = record { list-is = refl; count-is = rw (le-ltb _ _ (c .if1 .left)) }
 
 pub list-row-spec : {M : Type 1} → statement M
 list-row-spec =
-    tie.close (tie.spec cast-list element-write-list returns add-result returns-2 returns-3)
+    tie.close (tie.spec cast-list element-write-list add-result returns returns-2)
