@@ -16,7 +16,7 @@ use Rattle.grid.proofs.BelowLaws.{no-byte}
 use Rattle.exchange.specs.Forms.{holdsRow}
 use Rattle.exchange.proofs.TableLaws.{row-self}
 use Rattle.exchange.proofs.TablePlan.RowUnits.{holds-rises}
-use Rattle.grid.specs.Units.{unitOf, Small, RowUnits}
+use Rattle.grid.specs.Units.{unitOf, packed, Small}
 use Rattle.grid.specs.Below.{Strides}
 use Rattle.held.specs.Down.{Open, CapsRise, Down, OneLess}
 use Rattle.held.proofs.HoldLaws.{holds-cons}
@@ -312,24 +312,24 @@ module _ {us caps : List ℕ} {b need a j stride row : ℕ} (h : Descending us c
 pub first-byte : (p : ℕ) → p % 256 ≡ p / 256 ^ 0 % 256
 first-byte p = rw (div-one p)
 
-module _ {us strides held caps : List ℕ} {a b need : ℕ}
-    (pre : Small us × Strides us strides × RowUnits us held (rowsOf us) × CapsRise us caps × (a < rowsOf us) × (b < rowsOf us) × Open us caps b need a) where
+module _ {us strides caps : List ℕ} {a b less more need : ℕ}
+    (pre : Small us × Strides us strides × (less ≡ packed us a) × (more ≡ packed us b) × CapsRise us caps × (a < rowsOf us) × (b < rowsOf us) × Open us caps b need a) where
   -- the units of the next item, by a row's word
-  unit-at : (r i : ℕ) → r < rowsOf us → i < length us → getD held r 0 / 256 ^ i % 256 ≡ unitOf us (length us - i - 1) r
-  unit-at r i l m =
+  unit-at : (r i : ℕ) {word : ℕ} → word ≡ packed us r → i < length us → word / 256 ^ i % 256 ≡ unitOf us (length us - i - 1) r
+  unit-at r i w m =
       let e : length us - suc (length us - i - 1) ≡ i = omega arith in
-      rw (pre .2 .word-at r l) (rw e at (packed-lane us (length us - i - 1) r (pre .0) (omega arith)))
+      rw w (rw e at (packed-lane us (length us - i - 1) r (pre .0) (omega arith)))
 
-  item-of : (i : ℕ) → 0 < getD held a 0 / 256 ^ i % 256 → i < length us
+  item-of : (i : ℕ) → 0 < less / 256 ^ i % 256 → i < length us
   item-of i u = go (decLt i (length us))
     where
       go : Dec (i < length us) → i < length us
       go (yes l) = l
-      go (no l) = absurd (omega (arith, u, ap (λ (w : ℕ). w / 256 ^ i % 256) (pre .2 .word-at a (pre .4)), no-byte us a i (pre .0) (omega arith)))
+      go (no l) = absurd (omega (arith, u, ap (λ (w : ℕ). w / 256 ^ i % 256) (pre .2), no-byte us a i (pre .0) (omega arith)))
 
-  module _ (i : ℕ) {stride row has : ℕ} (h : Descending us caps b need a (length us - i) stride row) (e : has ≡ getD held a 0 / 256 ^ i % 256) where
+  module _ (i : ℕ) {stride row has : ℕ} (h : Descending us caps b need a (length us - i) stride row) (e : has ≡ less / 256 ^ i % 256) where
     has-is : i < length us → has ≡ unitOf us (length us - i - 1) a
-    has-is l = e ∙ unit-at a i (pre .4) l
+    has-is l = e ∙ unit-at a i (pre .2) l
 
     some-item : 0 < has → i < length us
     some-item u = item-of i (rw (← e) u)
@@ -337,7 +337,7 @@ module _ {us strides held caps : List ℕ} {a b need : ℕ}
     pub level-asks : (0 < has → stride ≤ row) × (0 < has → row - stride < 128)
     level-asks = (
       λ u. let l = some-item u in less-low h (omega arith) has (has-is l) u,
-      λ u. let l = some-item u in omega (arith, less-below h (omega arith) has (has-is l) u, pre .4, pre .2 .few),
+      λ u. let l = some-item u in omega (arith, less-below h (omega arith) has (has-is l) u, pre .5, pre .0 .rows),
     )
 
     module _ {k : ℕ} (tried : OneLess caps row stride has need k) where
@@ -345,7 +345,7 @@ module _ {us strides held caps : List ℕ} {a b need : ℕ}
       level-found p =
           let x = tried .found p in
           let l = some-item (x .0) in
-          rw (x .2) (descending-found h (omega arith) has (has-is l) (x .0) (pre .6 .held) (x .1))
+          rw (x .2) (descending-found h (omega arith) has (has-is l) (x .0) (pre .7 .held) (x .1))
 
       -- the last item to try
       pub level-none : k ≤ 0 → length us < i + 2 → Down us caps b need a 0
@@ -354,9 +354,9 @@ module _ {us strides held caps : List ℕ} {a b need : ℕ}
           go : Dec (i < length us) → Down us caps b need a 0
           go (yes l) =
               descending-none _ _ _ _ _ _ _ _
-              (descending-next h (omega arith) has (has-is l) (pre .6 .held) (unitOf us (length us - i - 1) b) refl _ _ refl refl (pre .3) (pre .4) (tried .poor z))
-              (omega arith) (pre .4)
-          go (no l) = descending-none _ _ _ _ _ _ _ _ h (omega arith) (pre .4)
+              (descending-next h (omega arith) has (has-is l) (pre .7 .held) (unitOf us (length us - i - 1) b) refl _ _ refl refl (pre .4) (pre .5) (tried .poor z))
+              (omega arith) (pre .5)
+          go (no l) = descending-none _ _ _ _ _ _ _ _ h (omega arith) (pre .5)
 
       pub level-last : length us < i + 2 → Down us caps b need a k
       level-last last = go (decLt 0 k)
@@ -368,9 +368,9 @@ module _ {us strides held caps : List ℕ} {a b need : ℕ}
               rw z (level-none (omega arith) last)
 
     -- there is an item more
-    module _ {full : ℕ} (more : i + 1 < length us) (f : full ≡ getD held b 0 / 256 ^ i % 256) where
+    module _ {full : ℕ} (further : i + 1 < length us) (f : full ≡ more / 256 ^ i % 256) where
       full-is : full ≡ unitOf us (length us - i - 1) b
-      full-is = f ∙ unit-at b i (pre .5) (omega arith)
+      full-is = f ∙ unit-at b i (pre .3) (omega arith)
 
       own : has ≡ unitOf us (length us - i - 1) a
       own = has-is (omega arith)
@@ -378,16 +378,16 @@ module _ {us strides held caps : List ℕ} {a b need : ℕ}
       stride-known : getD strides (i + 1) 0 ≡ rowsOf (drop (length us - i - 1) us)
       stride-known =
           let s : length us - i - 1 ≡ length us - (i + 1) = omega arith in
-          rw s (pre .1 .stride-at (i + 1) more)
+          rw s (pre .1 .stride-at (i + 1) further)
 
       pub level-fits : (has ≤ full) × (row + (full - has) * stride < 2 ^ 64)
       level-fits = (
-        unit-held h (omega arith) has own (pre .6 .held) full full-is,
-        omega (arith, row-high h (omega arith) has own (pre .6 .held) full full-is _ _ refl stride-known, pre .4, pre .5, pre .2 .few),
+        unit-held h (omega arith) has own (pre .7 .held) full full-is,
+        omega (arith, row-high h (omega arith) has own (pre .7 .held) full full-is _ _ refl stride-known, pre .5, pre .6, pre .0 .rows),
       )
 
       pub level-next : {k row′ : ℕ} → OneLess caps row stride has need k → k ≤ 0 → row′ ≡ row + (full - has) * stride
           → Descending us caps b need a (length us - (i + 1)) (getD strides (i + 1) 0) row′
       level-next tried z next =
           let s : length us - (i + 1) ≡ length us - i - 1 = omega arith in
-          rw s (descending-next h (omega arith) has own (pre .6 .held) full full-is _ _ next stride-known (pre .3) (pre .4) (tried .poor z))
+          rw s (descending-next h (omega arith) has own (pre .7 .held) full full-is _ _ next stride-known (pre .4) (pre .5) (tried .poor z))

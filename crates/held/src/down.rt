@@ -2,7 +2,7 @@
 ghost use mathlib.Core.Path.{_≡_};
 ghost use Prim.Native.Nat.{_+_, _*_, _-_, _%_, _^_, _<_, _≤_};
 ghost use Rattle.grid.specs.Rows.{rowsOf};
-ghost use Rattle.grid.specs.Units.{Small, RowUnits};
+ghost use Rattle.grid.specs.Units.{packed, Small};
 ghost use Rattle.grid.specs.Below.{Strides};
 ghost use Rattle.held.specs.Down.{Open, CapsRise, Down, OneLess};
 use super::words::low_byte;
@@ -29,24 +29,23 @@ fn put_back(row: usize, stride: usize, less: u32, more: u32) -> usize
     row + (low_byte(more) - low_byte(less)) * stride
 }
 
-// From row a the next row down that row b holds and that can pay, plus 1; 0 where there is none. Tries each item, from the last to the first:
-// one unit less of it than row a has, and of the items after it the units of row b. Caps do not fall as units are added, so where that row
-// cannot pay, none with fewer units of the item can. Written out item by item: a processor predicts a test of each item better than one test
-// that a loop repeats.
+// From row a the next row down that row b holds and that can pay, plus 1; 0 where there is none; less and more are the words of rows a and b.
+// Tries each item, from the last to the first: one unit less of it than row a has, and of the items after it the units of row b. Caps do not
+// fall as units are added, so where that row cannot pay, none with fewer units of the item can. Written out item by item: a processor
+// predicts a test of each item better than one test that a loop repeats.
 pub fn next_down(
     units: &[u16],
     strides: &[usize; 4],
-    held: &[u32; 128],
     caps: &[u64; 128],
     a: usize,
     b: usize,
+    less: u32,
+    more: u32,
     need: u64,
 ) -> usize
-    requires { ⌜ Small (now units) × Strides (now units) (now strides) × RowUnits (now units) (now held) (rowsOf (now units)) × CapsRise (now units) (now caps) × (a < rowsOf (now units)) × (b < rowsOf (now units)) × Open (now units) (now caps) b need a ⌝ }
+    requires { ⌜ Small (now units) × Strides (now units) (now strides) × (less ≡ packed (now units) a) × (more ≡ packed (now units) b) × CapsRise (now units) (now caps) × (a < rowsOf (now units)) × (b < rowsOf (now units)) × Open (now units) (now caps) b need a ⌝ }
     ensures { λ r. ⌜ Down (now (units .entry)) (now (caps .entry)) b need a r ⌝ }
 {
-    let less = held[a];
-    let more = held[b];
     let found = one_less(caps, a, 1, less, need);
     if 0 < found {
         return found;

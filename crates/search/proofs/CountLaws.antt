@@ -19,7 +19,7 @@ use Rattle.exchange.specs.Search.{follows, leastFloor, need, count}
 use Rattle.exchange.proofs.TablePlan.Count.{count-is, settled-none}
 use Rattle.exchange.proofs.TableLaws.{row-start}
 use Rattle.exchange.proofs.TablePlan.Floor.{IsLeast, floor-is-least}
-use Rattle.exchange.proofs.TablePlan.Need.{follows↔, need-le, need-own, need-never-rises}
+use Rattle.exchange.proofs.TablePlan.Need.{follows↔, need-le, need-own, need-paid, need-never-rises}
 use Rattle.held.specs.Down.{CapsRise}
 use Rattle.search.specs.Layers.{mark, never, rowsWork, Searchable, Front, front, rowAt, floorOf, needAt, OffersTo, Best, Notes, Kept, Same, New, CanStep, Stepped, Arrival, Begun, needRead, Says, Counted}
 use Rattle.search.specs.declared.Terms.{Terms}
@@ -77,23 +77,23 @@ pub record InWindow (r : Notes) (v : Window) (a : ℕ) : Type 0 where
   pub below : index < v .end
   pub entry : getD (r .found) index 0 ≡ a
 
--- j steps are searched, and the start still needs a payment: the window has the rows that were reached in the last step and in the one before
-pub record Counting (w : Work) (floors : List ℕ) (r : Notes) (v : Window) (j : ℕ) : Type 0 where
+-- so many steps are searched, and the start still needs a payment: the window has the rows that were reached in the last step and in the one before
+pub record Counting (w : Work) (floors : List ℕ) (r : Notes) (v : Window) : Type 0 where
   pub kept : Kept r (v .end)
   pub order : v .from ≤ v .fresh
   pub order-end : v .fresh ≤ v .end
   pub in-rows : (i : ℕ) → i < v .end → getD (r .found) i 0 ≤ w .last
-  pub at-last : (i : ℕ) → v .fresh ≤ i → i < v .end → getD (r .reached) (getD (r .found) i 0) 0 ≡ j
-  pub before : (i : ℕ) → v .from ≤ i → i < v .fresh → getD (r .reached) (getD (r .found) i 0) 0 < j
-  pub lists : (a : ℕ) → a ≤ w .last → j ≤ getD (r .reached) a 0 + 1 → getD (r .reached) a 0 ≤ j → InWindow r v a
-  pub row : (a : ℕ) → a ≤ w .last → Row w (r .reached) j a
-  pub says : Says w (r .reached) (r .firsts) floors j
-  pub unfinished : (i : ℕ) → i ≤ j → 0 < need w mark i 0
+  pub at-last : (i : ℕ) → v .fresh ≤ i → i < v .end → getD (r .reached) (getD (r .found) i 0) 0 ≡ v .step
+  pub before : (i : ℕ) → v .from ≤ i → i < v .fresh → getD (r .reached) (getD (r .found) i 0) 0 < v .step
+  pub lists : (a : ℕ) → a ≤ w .last → v .step ≤ getD (r .reached) a 0 + 1 → getD (r .reached) a 0 ≤ v .step → InWindow r v a
+  pub row : (a : ℕ) → a ≤ w .last → Row w (r .reached) (v .step) a
+  pub says : Says w (r .reached) (r .firsts) floors (v .step)
+  pub unfinished : (i : ℕ) → i ≤ v .step → 0 < need w mark i 0
 
 -- the same of every table whose search has begun so
-pub record Progress (us held caps floors list : List ℕ) (r₀ r : Notes) (v : Window) (j : ℕ) : Type 0 where
+pub record Progress (us held caps floors list : List ℕ) (r₀ r : Notes) (v : Window) : Type 0 where
   pub list-long : length list ≡ 129
-  pub counting : (t : Terms) → Searchable t us held caps floors → Begun t r₀ → Counting (rowsWork t us caps floors) floors r v j
+  pub counting : (t : Terms) → Searchable t us held caps floors → Begun t r₀ → Counting (rowsWork t us caps floors) floors r v
 
 module _ {t : Terms} {us held caps floors : List ℕ} (g : Searchable t us held caps floors) where
   abbrev w : Work
@@ -105,7 +105,7 @@ module _ {t : Terms} {us held caps floors : List ℕ} (g : Searchable t us held 
   all : suc (w .last) ≡ rowsOf us
   all = omega (arith, g .good .rows-are, g .good .some)
 
-  pub counting-start : {r : Notes} → Begun t r → Counting w floors r (record { from = 0; fresh = 0; end = 1 }) 0
+  pub counting-start : {r : Notes} → Begun t r → Counting w floors r (record { step = 0; from = 0; fresh = 0; end = 1 })
   unfolding need
   counting-start {r} b =
       record {
@@ -141,7 +141,7 @@ module _ {t : Terms} {us held caps floors : List ℕ} (g : Searchable t us held 
       step-other : (a : ℕ) → a ≤ w .last → (a ≡ w .last → ⊥) → getD (r .reached) a 0 ≡ never
       step-other a l n = rw (b .reached-are) (one-other never (w .last) 0 few a (omega (arith, few)) n)
 
-      only : (a : ℕ) → a ≤ w .last → getD (r .reached) a 0 ≤ 0 → Dec (a ≡ w .last) → InWindow r (record { from = 0; fresh = 0; end = 1 }) a
+      only : (a : ℕ) → a ≤ w .last → getD (r .reached) a 0 ≤ 0 → Dec (a ≡ w .last) → InWindow r (record { step = 0; from = 0; fresh = 0; end = 1 }) a
       only a l m (yes q) = record { index = 0; begin = omega arith; below = omega arith; entry = found-first ∙ sym q }
       only a l m (no n) = absurd (omega (arith, step-other a l n))
 
@@ -165,7 +165,10 @@ module _ {t : Terms} {us held caps floors : List ℕ} (g : Searchable t us held 
       first : (i : ℕ) → i ≡ 0 → 0 < need w mark i 0
       first i e = rw (e, ne-eqb 0 (w .last) (λ q. omega (arith, g .good .some))) (omega arith)
 
-  module _ {r : Notes} {v : Window} {j : ℕ} (h : Counting w floors r v j) where
+  module _ {r : Notes} {v : Window} (h : Counting w floors r v) where
+    abbrev j : ℕ
+    j = v .step
+
     abbrev f : Front
     f = front floors (r .firsts) (r .found) v
 
@@ -217,8 +220,8 @@ module _ {t : Terms} {us held caps floors : List ℕ} (g : Searchable t us held 
               rw (le-ltb i (v .fresh) (omega arith))
               (sym (read-then (r .reached) (r .firsts) floors j (rowAt f i) (sym (h .at-last i (omega arith) l))) ∙ h .says j (rowAt f i) (omega arith) (h .in-rows i l))
 
-      pub can-step : {strides list : List ℕ} → Strides us strides → length list ≡ 129 → CanStep us strides held caps floors list r v
-      can-step s long =
+      pub can-step : {strides list : List ℕ} → j + 1 < never → Strides us strides → length list ≡ 129 → CanStep us strides held caps floors list r v
+      can-step later s long =
           record {
             can-offer =
                 record {
@@ -233,18 +236,23 @@ module _ {t : Terms} {us held caps floors : List ℕ} (g : Searchable t us held 
                   few = end-few;
                   order = omega (arith, h .order, h .order-end);
                   in-rows = λ i l. omega (arith, h .in-rows i l, all);
-                  low = λ i k l. low i k l;
+                  pays = λ i k l.
+                      omega (arith, needs-are i k l, need-paid w mark (g .lawful) (g .high) j (rowAt f i) (h .in-rows i l) (sum i k l));
+                  low = low;
                 };
             kept = h .kept;
             list-long = long;
+            early = later;
           }
         where
+          sum : (i : ℕ) → v .from ≤ i → i < v .end → need w mark j (rowAt f i) < mark
+          sum i k l = has-sum (rowAt f i) (h .in-rows i l) (omega (arith, window-step i k l)) .0
+
           low : (i : ℕ) → v .from ≤ i → i < v .end → floorOf f i < mark
           low i k l =
               let b : ℕ = rowAt f i in
-              let x = has-sum b (h .in-rows i l) (omega (arith, window-step i k l)) in
               omega
-              (arith, need-own w mark (g .lawful) (g .high) j b (h .in-rows i l) (x .0), need-never-rises w mark (g .lawful) j (suc j) b (omega arith), x .0)
+              (arith, need-own w mark (g .lawful) (g .high) j b (h .in-rows i l) (sum i k l), need-never-rises w mark (g .lawful) j (suc j) b (omega arith), sum i k l)
 
       -- a row that can follow another stands in the window, or it could before
       complete : (a b : ℕ) → a ≤ w .last → b ≤ w .last → T (w .holds a b) → need w mark j b ≤ w .cap a → (need w mark j a ≤ w .floor b) ⊎ InWindow r v b
@@ -337,7 +345,10 @@ module _ {t : Terms} {us held caps floors : List ℕ} (g : Searchable t us held 
           go (no p) (yes q) = omega (arith, above q)
           go (no p) (no q) = omega (arith, least .marked, b .marked)
 
-      module _ {r′ : Notes} {m : ℕ} (step : Stepped us caps f (j + 1) (r .reached) r′ m) where
+      module _ {r′ : Notes} {v′ : Window} (step : Stepped us caps f (r .reached) r′ v′) where
+        abbrev m : ℕ
+        m = v′ .end
+
         -- a row that was reached needs its floor now
         settled : (a : ℕ) → a ≤ w .last → getD (r .reached) a 0 < never → need w mark (suc j) a ≡ w .floor a
         settled a l k = need-own w mark (g .lawful) (g .high) j a l (has-sum a l k .0)
@@ -347,8 +358,8 @@ module _ {t : Terms} {us held caps floors : List ℕ} (g : Searchable t us held 
         offer-need a l k = best-need a (getD (step .next) a 0) l k (step .offered a (omega (arith, all)))
 
         -- no row was reached in the last step and none is in this one: no more steps change a need
-        pub counting-settled : (most : ℕ) → v .fresh ≡ m → Counted w most (r′ .reached) (r′ .firsts) floors (most + 1)
-        counting-settled most z =
+        pub counting-settled : (most : ℕ) → v′ .from ≡ m → Counted w most (r′ .reached) (r′ .firsts) floors (most + 1)
+        counting-settled most still =
             record {
               count-is =
                   omega (arith, settled-none w mark most (g .lawful) j (λ a l. same a l (decLt (getD (r .reached) a 0) never)) (h .unfinished j (omega arith)), count-is w mark most .within);
@@ -357,6 +368,9 @@ module _ {t : Terms} {us held caps floors : List ℕ} (g : Searchable t us held 
               reaches = λ (q : most + 1 ≤ most). absurd (omega arith);
             }
           where
+            z : v .fresh ≡ m
+            z = sym (ap (λ (x : Window). x .from) (step .moved)) ∙ still
+
             earlier : (a : ℕ) → a ≤ w .last → getD (r .reached) a 0 ≤ j → getD (r .reached) a 0 < j
             earlier a l k = go (decLt (getD (r .reached) a 0) j)
               where
@@ -449,9 +463,9 @@ module _ {t : Terms} {us held caps floors : List ℕ} (g : Searchable t us held 
               go (no k) (yes o) = first (omega arith) o
               go (no k) (no o) = waiting (omega arith) (omega arith) (h .row a l .waits (omega (arith, no-sum a l (omega arith))))
 
-        pub counting-next : j + 1 < never → (Arrival caps f (v .end) → ⊥) → Counting w floors r′ (record { from = v .fresh; fresh = v .end; end = m }) (j + 1)
+        pub counting-next : j + 1 < never → (Arrival caps f (v .end) → ⊥) → Counting w floors r′ v′
         counting-next later none =
-            rw add-one
+            rw (step .moved, add-one)
             (record {
               kept = step .noted .kept;
               order = h .order-end;
@@ -476,7 +490,7 @@ module _ {t : Terms} {us held caps floors : List ℕ} (g : Searchable t us held 
                 rw (step .noted .found-kept i l) (omega (arith, step .noted .had (getD (r .found) i 0) (omega (arith, e)) .step-same, e))
 
             lists : (a : ℕ) → a ≤ w .last → suc j ≤ getD (r′ .reached) a 0 + 1 → getD (r′ .reached) a 0 ≤ suc j → Dec (getD (r .reached) a 0 < never)
-                → InWindow r′ (record { from = v .fresh; fresh = v .end; end = m }) a
+                → InWindow r′ (record { step = suc j; from = v .fresh; fresh = v .end; end = m }) a
             lists a l k o (yes y) =
                 let s = step .noted .had a y .step-same in
                 let x = h .lists a l (omega (arith, s)) (has-sum a l y .1) in
@@ -492,7 +506,7 @@ module _ {t : Terms} {us held caps floors : List ℕ} (g : Searchable t us held 
                 late x (no q) k = omega arith
             lists a l k o (no y) = go (decLt (getD (step .next) a 0) mark)
               where
-                go : Dec (getD (step .next) a 0 < mark) → InWindow r′ (record { from = v .fresh; fresh = v .end; end = m }) a
+                go : Dec (getD (step .next) a 0 < mark) → InWindow r′ (record { step = suc j; from = v .fresh; fresh = v .end; end = m }) a
                 go (yes q) =
                     let x = step .noted .new a (omega (arith, all)) (omega arith) q in
                     record { index = x .index; begin = omega (arith, x .begin, h .order-end); below = x .below; entry = x .entry }

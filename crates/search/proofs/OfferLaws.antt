@@ -13,7 +13,7 @@ use Rattle.grid.specs.Rows.{rowsOf}
 use Rattle.exchange.specs.Forms.{holdsRow}
 use Rattle.exchange.proofs.TableLaws.{row-self}
 use Rattle.exchange.proofs.TablePlan.RowUnits.{holds-rises}
-use Rattle.held.specs.Down.{Open, CapsRise, Down}
+use Rattle.held.specs.Down.{Open, Down}
 use Rattle.search.specs.Layers.{mark, offerTo, Offers, Front, rowAt, floorOf, needAt, OffersTo, Taken, Best, Offered}
 
 is-true : (x : Bool) → T x → x ≡ true
@@ -56,15 +56,6 @@ module _ (us caps : List ℕ) (b need floor : ℕ) where
         opens = λ _. rw e (record { held = row-self us b; pays = pays });
         done = λ a m s. keeps us caps b need floor a (getD next a 0) (λ o. omega (arith, holds-rises us a b s few (o .held)));
         left = λ a m. refl;
-      }
-
-  -- row b cannot pay what it needs itself, and so no row that it holds can
-  pub offering-none : (next : List ℕ) → length next ≡ 128 → CapsRise us caps → b < rowsOf us → getD caps b 0 < need
-      → Offers (offerTo us caps b need floor) (rowsOf us) next next
-  offering-none next p rise few poor =
-      record {
-        long = p;
-        offer-is = λ a s. keeps us caps b need floor a (getD next a 0) (λ o. omega (arith, rise .cap-rises a b s few (o .held), o .pays));
       }
 
   module _ {next₀ next : List ℕ} {k : ℕ} (h : Offering next₀ next k) where

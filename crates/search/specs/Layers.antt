@@ -151,12 +151,13 @@ pub record Best (us caps : List ℕ) (f : Front) (n a o : ℕ) : Type 0 where
 abbrev pub Offered : List ℕ → List ℕ → Front → ℕ → List ℕ → Type 0
 Offered us caps f n next = (a : ℕ) → a < rowsOf us → Best us caps f n a (getD next a 0)
 
--- the rows of a window are rows of the table, and their floors are below the mark
-pub record Offerers (floors found : List ℕ) (v : Window) (rows : ℕ) : Type 0 where
-  pub few : v .end ≤ 128
-  pub order : v .from ≤ v .end
-  pub in-rows : (i : ℕ) → i < v .end → getD found i 0 < rows
-  pub low : (i : ℕ) → v .from ≤ i → i < v .end → getD floors (getD found i 0) 0 < mark
+-- the rows of a window are rows of the table; each can pay what it needs, and its floor is below the mark
+pub record Offerers (caps : List ℕ) (f : Front) (rows : ℕ) : Type 0 where
+  pub few : f .window .end ≤ 128
+  pub order : f .window .from ≤ f .window .end
+  pub in-rows : (i : ℕ) → i < f .window .end → rowAt f i < rows
+  pub pays : (i : ℕ) → f .window .from ≤ i → i < f .window .end → needAt f i ≤ getD caps (rowAt f i) 0
+  pub low : (i : ℕ) → f .window .from ≤ i → i < f .window .end → floorOf f i < mark
 
 -- ---- the rows that have an offer
 
@@ -243,18 +244,20 @@ pub record Noted (next : List ℕ) (step end : ℕ) (r r′ : Notes) (m rows : �
   pub found-kept : (i : ℕ) → i < end → getD (r′ .found) i 0 ≡ getD (r .found) i 0
   pub found-new : (i : ℕ) → end ≤ i → i < m → (getD (r′ .found) i 0 < rows) × (getD (r′ .reached) (getD (r′ .found) i 0) 0 ≡ step)
 
--- what a step asks: what its offers ask, the rows of the window, the arrays of the rows, and a list with a place more
+-- what a step asks: what its offers ask, the rows of the window, the arrays of the rows, a list with a place more, and a step that has a number
 pub record CanStep (us strides held caps floors list : List ℕ) (r : Notes) (v : Window) : Type 0 where
   pub can-offer : CanOffer us strides held caps
-  pub offerers : Offerers floors (r .found) v (rowsOf us)
+  pub offerers : Offerers caps (front floors (r .firsts) (r .found) v) (rowsOf us)
   pub kept : Kept r (v .end)
   pub list-long : length list ≡ 129
+  pub early : v .step + 1 < never
 
--- a step: the rows of the window offer their floors, and the rows that take an offer are reached
-pub record Stepped (us caps : List ℕ) (f : Front) (step : ℕ) (reached : List ℕ) (r′ : Notes) (m : ℕ) : Type 0 where
+-- a step: the rows of the window offer their floors, the rows that take an offer are reached, and the window moves on
+pub record Stepped (us caps : List ℕ) (f : Front) (reached : List ℕ) (r′ : Notes) (v′ : Window) : Type 0 where
   pub next : List ℕ
   pub offered : Offered us caps f (f .window .end) next
-  pub noted : Noted next step (f .window .end) (notes reached (f .firsts) (f .found)) r′ m (rowsOf us)
+  pub noted : Noted next (f .window .step + 1) (f .window .end) (notes reached (f .firsts) (f .found)) r′ (v′ .end) (rowsOf us)
+  pub moved : v′ ≡ record { step = f .window .step + 1; from = f .window .fresh; fresh = f .window .end; end = v′ .end }
 
 -- ---- all steps
 

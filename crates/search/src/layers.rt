@@ -5,9 +5,6 @@ ghost use Prim.Native.Nat.{ℕ, _+_, _-_, _<_, _≤_, min};
 ghost use lib.Dec.{ltb};
 ghost use lib.ListN.{length, getD, set, replicate};
 ghost use Rattle.grid.specs.Rows.{rowsOf};
-ghost use Rattle.grid.specs.Units.{Small, RowUnits};
-ghost use Rattle.grid.specs.Below.{Strides};
-ghost use Rattle.held.specs.Down.{CapsRise};
 ghost use Rattle.search.specs.Layers.{mark, never, rowsWork, Searchable, notes, front, offerTo, Offers, Offered, Offerers, Listing, RowListed, CanOffer, Kept, Noting, CanStep, Stepped, Arrives, Counted};
 use super::Terms;
 use super::UNREACHED;
@@ -16,22 +13,25 @@ use super::limits::wide32;
 // No step reaches the row.
 const NEVER: u16 = 65535;
 
-// Of the rows in the order in which they are reached, those that can offer something new. From `from` on stand the rows that were reached in
-// the step before the last one and now need their floor, from `fresh` up to `end` those reached in the last one, which need their first sum.
+// How many steps are searched, and which rows can offer something new, by their places in the order in which rows are reached. From `from` on
+// stand those that were reached in the step before the last one and now need their floor, from `fresh` up to `end` those reached in the last
+// one, which need their first sum.
 struct Window {
+    step: usize,
     from: usize,
     fresh: usize,
     end: usize,
 }
 
-// The window after one more step, with so many rows reached.
-fn moved_on(v: Window, end: usize) -> Window
-    ensures { λ r. ⌜ r ≡ record { from = v .fresh; fresh = v .end; end = end } ⌝ }
+// No step is searched, and the last row is reached.
+fn first_window() -> Window
+    ensures { λ v. ⌜ v ≡ record { step = 0; from = 0; fresh = 0; end = 1 } ⌝ }
 {
     Window {
-        from: v.fresh,
-        fresh: v.end,
-        end,
+        step: 0,
+        from: 0,
+        fresh: 0,
+        end: 1,
     }
 }
 
@@ -82,17 +82,15 @@ fn offer(
     list: &mut [u8; 129],
     n: usize,
 ) -> usize
-    requires { ⌜ CanOffer (now units) (now strides) (now held) (now caps) × (b < rowsOf (now units)) × (floor < mark) × Listing (now next) (now list) n (rowsOf (now units)) ⌝ }
+    requires { ⌜ CanOffer (now units) (now strides) (now held) (now caps) × (b < rowsOf (now units)) × (need ≤ getD (now caps) b 0) × (floor < mark) × Listing (now next) (now list) n (rowsOf (now units)) ⌝ }
     ensures { λ r. ⌜ Offers (offerTo (now (units .entry)) (now (caps .entry)) b need floor) (rowsOf (now (units .entry))) (now (next .entry)) (now (next .exit)) × Listing (now (next .exit)) (now (list .exit)) r (rowsOf (now (units .entry))) ⌝ }
 {
-    if caps[b] < need {
-        return n;
-    }
+    let more = held[b];
     let mut count = n;
     let mut k = b + 1;
     while 0 < k {
         let a = k - 1;
-        k = held::next_down(units, strides, held, caps, a, b, need);
+        k = held::next_down(units, strides, caps, a, b, held[a], more, need);
         let best = next[a];
         next[a] = lesser(floor, best);
         count = list_row(list, count, a, best);
@@ -113,7 +111,7 @@ fn offer_all(
     next: &mut [u64; 128],
     list: &mut [u8; 129],
 ) -> usize
-    requires { ⌜ CanOffer (now units) (now strides) (now held) (now caps) × Offerers (now floors) (now found) v (rowsOf (now units)) × (now next ≡ replicate 128 mark) × (length (now list) ≡ 129) ⌝ }
+    requires { ⌜ CanOffer (now units) (now strides) (now held) (now caps) × Offerers (now caps) (front (now floors) (now firsts) (now found) v) (rowsOf (now units)) × (now next ≡ replicate 128 mark) × (length (now list) ≡ 129) ⌝ }
     ensures { λ r. ⌜ Offered (now (units .entry)) (now (caps .entry)) (front (now (floors .entry)) (now (firsts .entry)) (now (found .entry)) v) (v .end) (now (next .exit)) × Listing (now (next .exit)) (now (list .exit)) r (rowsOf (now (units .entry))) ⌝ }
 {
     let mut count: usize = 0;
@@ -203,8 +201,7 @@ fn first_found(t: Terms) -> [u8; 128]
     found
 }
 
-// One step of the search: the rows of the window offer their floors, and the rows that take an offer are reached. The answer is how many are
-// reached then.
+// One step of the search: the rows of the window offer their floors, and the rows that take an offer are reached.
 fn step(
     units: &[u16],
     strides: &[usize; 4],
@@ -212,15 +209,15 @@ fn step(
     caps: &[u64; 128],
     floors: &[u64; 128],
     v: Window,
-    number: u16,
     list: &mut [u8; 129],
     reached: &mut [u16; 128],
     firsts: &mut [u64; 128],
     found: &mut [u8; 128],
-) -> usize
-    requires { ⌜ CanStep (now units) (now strides) (now held) (now caps) (now floors) (now list) (notes (now reached) (now firsts) (now found)) v × (number < never) ⌝ }
-    ensures { λ m. ⌜ Stepped (now (units .entry)) (now (caps .entry)) (front (now (floors .entry)) (now (firsts .entry)) (now (found .entry)) v) number (now (reached .entry)) (notes (now (reached .exit)) (now (firsts .exit)) (now (found .exit))) m × (length (now (list .exit)) ≡ 129) ⌝ }
+) -> Window
+    requires { ⌜ CanStep (now units) (now strides) (now held) (now caps) (now floors) (now list) (notes (now reached) (now firsts) (now found)) v ⌝ }
+    ensures { λ v′. ⌜ Stepped (now (units .entry)) (now (caps .entry)) (front (now (floors .entry)) (now (firsts .entry)) (now (found .entry)) v) (now (reached .entry)) (notes (now (reached .exit)) (now (firsts .exit)) (now (found .exit))) v′ × (length (now (list .exit)) ≡ 129) ⌝ }
 {
+    let number = v.step + 1;
     let mut next = [UNREACHED; 128];
     let n = offer_all(
         units,
@@ -234,7 +231,13 @@ fn step(
         &mut next,
         list,
     );
-    note(&next, list, n, number, v.end, reached, firsts, found)
+    let end = note(&next, list, n, number as u16, v.end, reached, firsts, found);
+    Window {
+        step: number,
+        from: v.fresh,
+        fresh: v.end,
+        end,
+    }
 }
 
 // Whether a row of the window ends the search one step on: row 0 can pay what it needs, and its floor is 0. Every row holds the units of row 0.
@@ -280,31 +283,23 @@ pub(crate) fn count_steps(
     let strides = grid::strides_of(units);
     let mut found = first_found(t);
     let mut list = [0u8; 129];
-    let mut v = Window {
-        from: 0,
-        fresh: 0,
-        end: 1,
-    };
-    let mut j: usize = 0;
-    while j < most {
+    let mut v = first_window();
+    while v.step < most {
         if arrives(caps, floors, firsts, &found, v) {
-            return j + 1;
+            return v.step + 1;
         }
-        j += 1;
-        let end = step(
+        v = step(
             units,
             &strides,
             held,
             caps,
             floors,
             v,
-            j as u16,
             &mut list,
             reached,
             firsts,
             &mut found,
         );
-        v = moved_on(v, end);
         if v.from == v.end {
             return most + 1;
         }

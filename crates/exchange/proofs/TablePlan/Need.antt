@@ -116,7 +116,7 @@ module _ (w : Work) (mark : ℕ) where
 
     module _ (high : w .price < mark) where
       -- and what it needs may be paid there
-      need-paid : (j a : ℕ) → a ≤ w .last → need w mark j a < mark → need w mark j a ≤ w .cap a
+      pub need-paid : (j a : ℕ) → a ≤ w .last → need w mark j a < mark → need w mark j a ≤ w .cap a
       need-paid zero a i h = go (ℕ-discrete a (w .last))
         where
           go : Dec (a ≡ w .last) → need w mark 0 a ≤ w .cap a

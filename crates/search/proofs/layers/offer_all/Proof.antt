@@ -36,7 +36,11 @@ element-copy-out-offer : tie.Need-element-copy-out-offer Inv-loop μ-loop
 element-copy-out-offer c = omega (arith, c .before .wide8 .ensures, c .before .before .before .before .before .before .before .pre .1 .in-rows (c .before .before .before .before .before .loop .i) (c .before .before .before .if1 .taken), c .before .before .before .before .before .before .before .pre .0 .units-are .few)
 
 offer-requires : tie.Need-offer-requires Inv-loop μ-loop
-offer-requires c κs = (c .before .before .before .before .before .before .before .before .before .before .pre .0, rw (c .before .before .before .before .wide8 .ensures) (c .before .before .before .before .before .before .before .before .before .before .pre .1 .in-rows (c .before .before .before .before .before .before .before .before .loop .i) (c .before .before .before .before .before .before .if1 .taken)), rw (c .before .before .before .before .wide8 .ensures) (c .before .before .before .before .before .before .before .before .before .before .pre .1 .low (c .before .before .before .before .before .before .before .before .loop .i) (c .before .before .before .before .before .before .before .before .loop .inv .0) (c .before .before .before .before .before .before .if1 .taken)), c .before .before .before .before .before .before .before .before .loop .inv .3)
+offer-requires c κs = let e = c .before .before .before .before .wide8 .ensures in
+    let i = c .before .before .before .before .before .before .before .before .loop .i in
+    let from = c .before .before .before .before .before .before .before .before .loop .inv .0 in
+    let more = c .before .before .before .before .before .before .if1 .taken in
+    (c .before .before .before .before .before .before .before .before .before .before .pre .0, rw e (c .before .before .before .before .before .before .before .before .before .before .pre .1 .in-rows i more), rw (c .before .before .before .need-of .ensures, e) (c .before .before .before .before .before .before .before .before .before .before .pre .1 .pays i from more), rw e (c .before .before .before .before .before .before .before .before .before .before .pre .1 .low i from more), c .before .before .before .before .before .before .before .before .loop .inv .3)
 
 add-i : tie.Need-add-i Inv-loop μ-loop
 add-i c = omega (arith, c .before .before .before .before .before .before .before .before .before .before .before .pre .1 .few, c .before .before .before .before .before .before .before .if1 .taken)
