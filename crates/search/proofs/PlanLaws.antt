@@ -19,10 +19,11 @@ use Rattle.exchange.proofs.Bridge.{lawful}
 use Rattle.exchange.proofs.FormLaws.{table-rising}
 use Rattle.exchange.proofs.TableLaws.{row-self, row-start}
 use Rattle.exchange.proofs.TablePlan.{table-counted, table-earliest}
-use Rattle.exchange.proofs.TablePlan.Forward.{forwards-length, forwards-steps}
+use Rattle.exchange.proofs.TablePlan.Count.{count-plan}
+use Rattle.exchange.proofs.TablePlan.Forward.{forwards-length}
 use Rattle.search.specs.declared.Terms.{Terms}
 use Rattle.search.specs.Promise.{suits, Rise, Success}
-use Rattle.search.specs.Layers.{mark, working, rowsWork, Caps, Floors, Searchable, Counted, CanWalk, Walked, startBounds, Fitted, Found}
+use Rattle.search.specs.Layers.{mark, working, rowsWork, Caps, Floors, Searchable, Counted, Walked, Room, CanWalk, startBounds, Fitted, Found}
 use Rattle.search.proofs.AlikeLaws.{Alike, count-alike, forwards-alike}
 use Rattle.search.proofs.SuitLaws.{fit, some-units, start↔, units-few}
 
@@ -39,15 +40,32 @@ fitted {t} {us} {costs} {values} {places} {sums} work {n} e some rows rise items
       values-all = f .0 .values-all;
       rise = rise;
       early = omega (arith, f .1, units-few us, f .0 .few);
-      places-room = omega (arith, f .0 .places-room, f .1);
-      sums-room = omega (arith, f .0 .sums-room, f .1);
+      room = record { places-room = omega (arith, f .0 .places-room, f .1); sums-room = omega (arith, f .0 .sums-room, f .1) };
     }
+
+-- ---- the search by the arrays of the rows
+
+module _ {w : Work} {most k : ℕ} {reached firsts floors places sums : List ℕ} (c : Counted w most reached firsts floors k) where
+  pub can-walk : Room most places sums → k ≤ most → CanWalk w reached firsts floors k places sums
+  can-walk r l =
+      record {
+        reaches = c .reaches l;
+        room = record { places-room = omega (arith, r .places-room); sums-room = omega (arith, r .sums-room) };
+      }
+
+  pub found-none : most < k → Found w most k places places sums sums
+  found-none l =
+      record { count-is = c .count-is; written = λ m. absurd (omega arith); places-kept = λ _. refl; sums-kept = λ _. refl }
+
+  pub found-plan : k ≤ most → {places′ sums′ : List ℕ} → Walked w k places places′ sums sums′ → Found w most k places places′ sums sums′
+  found-plan l walked =
+      record { count-is = c .count-is; written = λ _. walked; places-kept = λ m. absurd (omega arith); sums-kept = λ m. absurd (omega arith) }
 
 module _ {t : Terms} {us costs values places sums : List ℕ} {most : ℕ} (f : Fitted t us costs values most places sums) where
   law : Lawful (working t us costs values)
   law = lawful _ (table-rising (t .sides) us costs values (f .costs-all) (f .values-all) (f .rise .costs-rise) (f .rise .values-rise))
 
-  -- ---- the search by arrays with the caps and the floors
+  -- ---- the arrays have the caps and the floors of the rows
 
   module _ {caps floors : List ℕ} (cs : Caps t costs caps (t .rows)) (fs : Floors t values floors (t .rows)) where
     abbrev w : Work
@@ -84,33 +102,21 @@ module _ {t : Terms} {us costs values places sums : List ℕ} {most : ℕ} (f : 
     pub searchable : {held : List ℕ} → RowUnits us held (rowsOf us) → t .sides .price < 2 ^ 32 → Searchable t us held caps floors
     searchable u narrow = record { good = f .good; small = f .small; units-are = u; narrow = narrow; high = omega arith; lawful = rows-lawful }
 
-    module _ {reached firsts : List ℕ} {k : ℕ} (c : Counted w most reached firsts floors k) where
-      pub can-walk : k ≤ most → CanWalk w reached firsts floors k places sums
-      can-walk l =
-          record { reaches = c .reaches l; places-room = omega (arith, f .places-room); sums-room = omega (arith, f .sums-room) }
-
-      counted : k ≡ count (working t us costs values) mark most
-      counted = c .count-is ∙ count-alike alike mark most
-
-      pub found-none : most < k → Found (working t us costs values) most k places places sums sums
-      found-none l =
-          record { count-is = counted; written = λ m. absurd (omega arith); places-kept = λ _. refl; sums-kept = λ _. refl }
-
-      pub found-plan : t .sides .price < mark → k ≤ most → {places′ sums′ : List ℕ} → Walked w k places places′ sums sums′
-          → Found (working t us costs values) most k places places′ sums sums′
-      found-plan high l {places′} {sums′} walked =
-          record {
-            count-is = counted;
-            written = λ _. record { places-are = rw (← same) (walked .places-are); sums-are = rw (← same) (walked .sums-are) };
-            places-kept = λ m. absurd (omega arith);
-            sums-kept = λ m. absurd (omega arith);
-          }
-        where
-          same : forwards w mark k start ≡ forwards (working t us costs values) mark k start
-          same =
-              forwards-alike alike mark k start (omega arith)
-              (forwards-steps w mark rows-lawful high k start
-              (record { in-deal = omega arith; afforded = omega arith; enough = c .reaches l .enough }))
+    -- what is found by the arrays is found of the table
+    pub found-same : t .sides .price < mark → {k : ℕ} {places′ sums′ : List ℕ} → Found w most k places places′ sums sums′
+        → Found (working t us costs values) most k places places′ sums sums′
+    found-same high {k} {places′} {sums′} h =
+        record {
+          count-is = h .count-is ∙ count-alike alike mark most;
+          written = λ l. record { places-are = rw (← same l) (h .written l .places-are); sums-are = rw (← same l) (h .written l .sums-are) };
+          places-kept = h .places-kept;
+          sums-kept = h .sums-kept;
+        }
+      where
+        same : k ≤ most → forwards w mark k start ≡ forwards (working t us costs values) mark k start
+        same l =
+            forwards-alike alike mark k start (omega arith)
+            (rw (h .count-is) (count-plan w mark most rows-lawful high (omega (arith, h .count-is)) .steps))
 
   -- ---- the answers
 

@@ -221,7 +221,7 @@ module _ {t : Terms} {us held caps floors reached firsts : List ℕ} {steps : �
               walking-turn g (needRead reached firsts floors (left - 1)) (left - 1) a paid going-in
               (λ b l. can .reaches .says (left - 1) b (omega (arith, h .counts)) l)
               (subst (λ (z : ℕ). Walking (rowsWork t us caps floors) steps places₀ places sums₀ sums z k a paid) one (h .walking))
-              (omega (arith, can .places-room, h .counts)) (omega (arith, can .sums-room, h .counts)) e f x y;
+              (omega (arith, can .room .places-room, h .counts)) (omega (arith, can .room .sums-room, h .counts)) e f x y;
         }
 
     pub going-done : left ≡ 0 → Walked (rowsWork t us caps floors) steps places₀ places sums₀ sums

@@ -322,11 +322,15 @@ pub record Walked (w : Work) (steps : ℕ) (places places′ sums sums′ : List
   pub places-are : Written 2 (map (λ s. s .place) (forwards w mark steps start)) places places′ steps
   pub sums-are : Written 4 (map (λ s. s .paid) (forwards w mark steps start)) sums sums′ steps
 
+-- room for so many steps in the areas of places and sums
+pub record Room (steps : ℕ) (places sums : List ℕ) : Type 0 where
+  pub places-room : steps ≤ length (entries 2 places)
+  pub sums-room : steps ≤ length (entries 4 sums)
+
 -- what reading a plan forwards needs: what each row needs in its steps, and room in the areas
 pub record CanWalk (w : Work) (reached firsts floors : List ℕ) (steps : ℕ) (places sums : List ℕ) : Type 0 where
   pub reaches : Reached w reached firsts floors steps
-  pub places-room : steps ≤ length (entries 2 places)
-  pub sums-room : steps ≤ length (entries 4 sums)
+  pub room : Room steps places sums
 
 -- ---- the whole search
 
@@ -338,8 +342,7 @@ pub record Fitted (t : Terms) (us costs values : List ℕ) (most : ℕ) (places 
   pub values-all : length values ≡ rowsOf us
   pub rise : Rise us costs values
   pub early : most < never
-  pub places-room : most ≤ length (entries 2 places)
-  pub sums-room : most ≤ length (entries 4 sums)
+  pub room : Room most places sums
 
 -- what it finds: the number of steps, and where that is at most the most, the plan in the areas; else they stay
 pub record Found (w : Work) (most n : ℕ) (places places′ sums sums′ : List ℕ) : Type 0 where

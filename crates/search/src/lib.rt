@@ -8,7 +8,7 @@ ghost use Rattle.grid.specs.Rows.{rowsOf};
 ghost use Rattle.exchange.specs.Search.{mostSteps};
 ghost use Rattle.exchange.specs.Test.{safeTest};
 ghost use Rattle.search.specs.Promise.{Plans, suits, Rise};
-ghost use Rattle.search.specs.Layers.{startBounds, working, Fitted, Found};
+ghost use Rattle.search.specs.Layers.{never, startBounds, working, rowsWork, Searchable, Room, Fitted, Found};
 
 mod layers;
 mod limits;
@@ -28,7 +28,8 @@ struct Terms {
     rows: usize,
 }
 
-// Above every price: the sum of a row from which the end is not reached.
+// Above every price: the sum of a row from which the end is not reached. All its bytes are the same, so that an array is filled with it as fast as
+// with zeros.
 const UNREACHED: u64 = 18446744073709551615;
 
 fn wide16(x: u16) -> usize
@@ -96,8 +97,42 @@ fn starts(t: Terms, costs: &[u32], values: &[u32]) -> bool
     exchange::safe(0, exchange::Bounds { lower, upper }, t.sides.price)
 }
 
-// Searches for the fewest steps and writes a plan with so many; its count of steps, and one more than the most where there is none. Then the
-// areas stay.
+// Searches by the units, the caps and the floors of the rows: the fewest steps, and one more than the most where there is no plan. A plan with
+// so many steps is written; where there is none the areas stay.
+fn find_plan(
+    t: Terms,
+    units: &[u16],
+    held: &[u32; 128],
+    caps: &[u64; 128],
+    floors: &[u64; 128],
+    most: usize,
+    places: &mut [u8],
+    sums: &mut [u8],
+) -> usize
+    requires { ⌜ Searchable t (now units) (now held) (now caps) (now floors) × (most < never) × Room most (now places) (now sums) ⌝ }
+    ensures { λ r. ⌜ Found (rowsWork t (now (units .entry)) (now (caps .entry)) (now (floors .entry))) most r (now (places .entry)) (now (places .exit)) (now (sums .entry)) (now (sums .exit)) ⌝ }
+{
+    let mut reached = first_reached(t);
+    let mut first = first_sums(t);
+    let n = count_steps(t, units, held, caps, floors, most, &mut reached, &mut first);
+    if n <= most {
+        walk::walk(
+            t,
+            units,
+            held,
+            caps,
+            floors,
+            &reached,
+            &first,
+            n,
+            places,
+            sums,
+        );
+    }
+    n
+}
+
+// The same from the costs and the values of the rows.
 fn search_rows(
     t: Terms,
     units: &[u16],
@@ -115,33 +150,7 @@ fn search_rows(
     all_caps(t, costs, &mut caps);
     let mut floors = [0u64; 128];
     all_floors(t, values, &mut floors);
-    let mut reached = first_reached(t);
-    let mut firsts = first_sums(t);
-    let n = count_steps(
-        t,
-        units,
-        &held,
-        &caps,
-        &floors,
-        most,
-        &mut reached,
-        &mut firsts,
-    );
-    if n <= most {
-        walk::walk(
-            t,
-            units,
-            &held,
-            &caps,
-            &floors,
-            &reached,
-            &firsts,
-            n,
-            places,
-            sums,
-        );
-    }
-    n
+    find_plan(t, units, &held, &caps, &floors, most, places, sums)
 }
 
 // Plans a table with fewest steps over all orders. Without a plan the areas of places and sums stay.

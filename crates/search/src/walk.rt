@@ -98,25 +98,16 @@ pub(crate) fn walk(
     let mut left = steps;
     let mut k: usize = 0;
     let mut a: usize = 0;
-    let mut paid: u32 = 0;
+    let mut paid: u64 = 0;
     while 0 < left {
         left -= 1;
         let pay = cap_at(caps, a);
-        let b = next_row(
-            t.rows,
-            held,
-            floors,
-            reached,
-            firsts,
-            left,
-            a,
-            wide32(pay),
-            wide32(paid),
-        );
+        let cap = wide32(pay);
+        let b = next_row(t.rows, held, floors, reached, firsts, left, a, cap, paid);
         area::store_u16(places, k, b as u16);
         area::store_u32(sums, k, pay);
         a = b;
-        paid = pay;
+        paid = cap;
         k += 1;
     }
 }

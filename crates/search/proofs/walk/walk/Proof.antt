@@ -23,14 +23,11 @@ cap-at-requires c κs = (omega (arith, going-in (c .before .before .before .befo
 wide32-requires : tie.Need-wide32-requires Inv-loop μ-loop
 wide32-requires c κs = search needs
 
-wide32-requires-2 : tie.Need-wide32-requires-2 Inv-loop μ-loop
-wide32-requires-2 c κs = search needs
-
 next-row-requires : tie.Need-next-row-requires Inv-loop μ-loop
-next-row-requires c κs = (c .before .before .before .before .before .before .before .before .pre .0 .good .few, going-in (c .before .before .before .before .before .before .before .before .pre .0) (c .before .before .before .before .before .before .before .before .pre .1) (c .before .before .before .before .loop .inv))
+next-row-requires c κs = (c .before .before .before .before .before .before .before .pre .0 .good .few, going-in (c .before .before .before .before .before .before .before .pre .0) (c .before .before .before .before .before .before .before .pre .1) (c .before .before .before .loop .inv))
 
 cast-store-u16 : tie.Need-cast-store-u16 Inv-loop μ-loop
-cast-store-u16 c = omega (arith, c .before .next-row .ensures .0, c .before .before .before .before .before .before .before .before .before .before .pre .0 .good .few)
+cast-store-u16 c = omega (arith, c .before .next-row .ensures .0, c .before .before .before .before .before .before .before .before .before .pre .0 .good .few)
 
 store-u16-requires : tie.Need-store-u16-requires Inv-loop μ-loop
 store-u16-requires c κs = search needs
@@ -39,14 +36,14 @@ store-u32-requires : tie.Need-store-u32-requires Inv-loop μ-loop
 store-u32-requires c κs = search needs
 
 add-k : tie.Need-add-k Inv-loop μ-loop
-add-k c = omega (arith, c .before .before .before .before .before .before .before .before .before .before .before .before .before .loop .inv .counts, c .before .before .before .before .before .before .before .before .before .before .before .before .loop-test .taken)
+add-k c = omega (arith, c .before .before .before .before .before .before .before .before .before .before .before .before .loop .inv .counts, c .before .before .before .before .before .before .before .before .before .before .before .loop-test .taken)
 
 loop-less : tie.Need-loop-less Inv-loop μ-loop
 loop-less c = search needs
 
 loop-again : tie.Need-loop-again Inv-loop μ-loop
-loop-again c = going-on (c .before .before .before .before .before .before .before .before .before .before .before .before .before .before .before .before .before .pre .0) (c .before .before .before .before .before .before .before .before .before .before .before .before .before .before .before .before .before .pre .1) (c .before .before .before .before .before .before .before .before .before .before .before .before .before .loop .inv) (c .before .before .before .before .before .before .before .before .before .before .before .before .loop-test .taken)
-    (rw (← c .before .before .before .before .before .before .before .before .before .wide322 .ensures .0, ← c .before .before .before .before .before .before .before .before .before .before .before .cap-at .ensures, ← c .before .before .before .before .before .before .before .before .before .before .wide32 .ensures .0) (c .before .before .before .before .before .before .before .before .next-row .ensures .1)) (c .before .before .before .before .before .before .before .before .before .before .before .cap-at .ensures) (c .before .before .before .before .before .before .store-u16 .ensures) (c .before .before .store-u32 .ensures)
+loop-again c = rw (c .before .before .before .before .before .before .before .before .before .wide32 .ensures .0) (going-on (c .before .before .before .before .before .before .before .before .before .before .before .before .before .before .before .before .pre .0) (c .before .before .before .before .before .before .before .before .before .before .before .before .before .before .before .before .pre .1) (c .before .before .before .before .before .before .before .before .before .before .before .before .loop .inv) (c .before .before .before .before .before .before .before .before .before .before .before .loop-test .taken)
+    (rw (← c .before .before .before .before .before .before .before .before .before .before .cap-at .ensures, ← c .before .before .before .before .before .before .before .before .before .wide32 .ensures .0) (c .before .before .before .before .before .before .before .before .next-row .ensures .1)) (c .before .before .before .before .before .before .before .before .before .before .cap-at .ensures) (c .before .before .before .before .before .before .store-u16 .ensures) (c .before .before .store-u32 .ensures))
 
 same-length : tie.Need-same-length Inv-loop μ-loop
 same-length c = c .before .loop .inv .places-long
@@ -67,7 +64,6 @@ walk-spec =
     sub-left
     cap-at-requires
     wide32-requires
-    wide32-requires-2
     next-row-requires
     cast-store-u16
     store-u16-requires
