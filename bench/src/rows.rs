@@ -233,7 +233,7 @@ fn keep_plan(program: &Program, deal: &Deal, areas: &mut Areas, call: impl Fn(&P
 
 fn fill_sums(steps: i64) {
     for _ in 0..steps {
-        black_box(&mut [1u64 << 32; 128]);
+        black_box(&mut [u64::MAX; 128]);
     }
 }
 

@@ -1,7 +1,6 @@
 -- The count of steps: after each step the arrays say what each row needs with so many steps. A row that is reached needs its floor with one step
 -- more, so only the rows reached in the last two steps offer something new, and only rows that are not reached take it. Assumes nothing.
-use mathlib.Core.Path.{_≡_, refl, sym, ap, _∙_}
-use mathlib.Core.Bool.{cond}
+use mathlib.Core.Path.{_≡_, sym, ap, _∙_}
 use mathlib.Core.Logic.{_⊎_, ⊎-elim, inl, inr}
 use mathlib.Core.List.{List}
 use Prim.Native.Nat.{ℕ, suc, _+_, _-_, _≤_, _<_}
@@ -9,7 +8,7 @@ use native.Mathlib.Decide.{ℕ-discrete, decLt}
 use native.Mathlib.Numerals.{add-one}
 use native.Mathlib.Omega.{arith}
 use borrow.Author.Tests.{eq-eqb, ne-eqb, lt-ltb, le-ltb}
-use lib.Dec.{T, ltb, eqb, leb→le, le→leb}
+use lib.Dec.{T, leb→le, le→leb}
 use lib.ListN.{length, getD, set, length-set, replicate, length-replicate, getD-replicate}
 use lib.Seq.{getD-set-same, getD-set-other}
 use Rattle.grid.specs.Rows.{rowsOf}
@@ -20,8 +19,7 @@ use Rattle.exchange.proofs.TablePlan.Count.{count-is, settled-none}
 use Rattle.exchange.proofs.TableLaws.{row-start}
 use Rattle.exchange.proofs.TablePlan.Floor.{IsLeast, floor-is-least}
 use Rattle.exchange.proofs.TablePlan.Need.{follows↔, need-le, need-own, need-paid, need-never-rises}
-use Rattle.held.specs.Down.{CapsRise}
-use Rattle.search.specs.Layers.{mark, never, rowsWork, Searchable, Front, front, rowAt, floorOf, needAt, OffersTo, Best, Notes, Kept, Same, New, CanStep, Stepped, Arrival, Begun, needRead, Says, Counted}
+use Rattle.search.specs.Layers.{mark, never, rowsWork, Searchable, Front, front, rowAt, floorOf, needAt, Best, Notes, Kept, Same, New, CanStep, Stepped, Arrival, Begun, needRead, Says, Counted}
 use Rattle.search.specs.declared.Terms.{Terms}
 use Rattle.search.specs.declared.layers.Window.{Window}
 use Rattle.search.proofs.ReadLaws.{read-before, read-then, read-after}

@@ -6,9 +6,9 @@ use Prim.Native.Nat.{ℕ, suc, _+_, _≤_, _<_}
 use native.Mathlib.Decide.{ℕ-discrete, decLt}
 use native.Mathlib.Numerals.{add-one}
 use native.Mathlib.Omega.{arith}
-use lib.ListN.{length, getD, set, length-set}
+use lib.ListN.{getD, set, length-set}
 use lib.Seq.{getD-set-same, getD-set-other}
-use Rattle.search.specs.Layers.{mark, never, Among, Listing, Notes, notes, Kept, Same, New, Noting, Noted}
+use Rattle.search.specs.Layers.{never, Among, Listing, Notes, notes, Kept, Same, New, Noting, Noted}
 use Rattle.search.proofs.ListLaws.{below-more, below-room}
 
 -- a list of one entry more
