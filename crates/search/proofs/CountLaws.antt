@@ -361,8 +361,8 @@ module _ {t : Terms} {us held caps floors : List ℕ} (g : Searchable t us held 
             record {
               count-is =
                   omega (arith, settled-none w mark most (g .lawful) j (λ a l. same a l (decLt (getD (r .reached) a 0) never)) (h .unfinished j (omega arith)), count-is w mark most .within);
-              reached-long = step .noted .kept .reached-long;
-              firsts-long = step .noted .kept .firsts-long;
+              reached-long = step .noted .grown .kept .reached-long;
+              firsts-long = step .noted .grown .kept .firsts-long;
               reaches = λ (q : most + 1 ≤ most). absurd (omega arith);
             }
           where
@@ -376,7 +376,7 @@ module _ {t : Terms} {us held caps floors : List ℕ} (g : Searchable t us held 
                 go (yes y) = y
                 go (no y) =
                     let x = h .lists a l (omega arith) k in
-                    let early : x .index < v .fresh = omega (arith, x .below, step .noted .more, z) in
+                    let early : x .index < v .fresh = omega (arith, x .below, step .noted .grown .more, z) in
                     rw (x .entry) at (h .before (x .index) (x .begin) early)
 
             same : (a : ℕ) → a ≤ w .last → Dec (getD (r .reached) a 0 < never) → need w mark (suc j) a ≡ need w mark j a
@@ -412,7 +412,7 @@ module _ {t : Terms} {us held caps floors : List ℕ} (g : Searchable t us held 
               }
             where
               s : Same r r′ a
-              s = step .noted .had a k
+              s = step .noted .grown .had a k
 
               x : (need w mark j a < mark) × (getD (r .reached) a 0 ≤ j)
               x = has-sum a l k
@@ -465,9 +465,9 @@ module _ {t : Terms} {us held caps floors : List ℕ} (g : Searchable t us held 
         counting-next later none =
             rw (step .moved, add-one)
             (record {
-              kept = step .noted .kept;
+              kept = step .noted .grown .kept;
               order = h .order-end;
-              order-end = step .noted .more;
+              order-end = step .noted .grown .more;
               in-rows = λ i l. in-rows i l (decLt i (v .end));
               at-last = λ i k l. step .noted .found-new i k l .1 ∙ add-one j;
               before = before;
@@ -478,25 +478,25 @@ module _ {t : Terms} {us held caps floors : List ℕ} (g : Searchable t us held 
             })
           where
             in-rows : (i : ℕ) → i < m → Dec (i < v .end) → getD (r′ .found) i 0 ≤ w .last
-            in-rows i l (yes k) = rw (step .noted .found-kept i k) (h .in-rows i k)
+            in-rows i l (yes k) = rw (step .noted .grown .found-kept i k) (h .in-rows i k)
             in-rows i l (no k) = omega (arith, step .noted .found-new i (omega arith) l .0, all)
 
             -- a row of the last step keeps its notes
             before : (i : ℕ) → v .fresh ≤ i → i < v .end → getD (r′ .reached) (getD (r′ .found) i 0) 0 < suc j
             before i k l =
                 let e = h .at-last i k l in
-                rw (step .noted .found-kept i l) (omega (arith, step .noted .had (getD (r .found) i 0) (omega (arith, e)) .step-same, e))
+                rw (step .noted .grown .found-kept i l) (omega (arith, step .noted .grown .had (getD (r .found) i 0) (omega (arith, e)) .step-same, e))
 
             lists : (a : ℕ) → a ≤ w .last → suc j ≤ getD (r′ .reached) a 0 + 1 → getD (r′ .reached) a 0 ≤ suc j → Dec (getD (r .reached) a 0 < never)
                 → InWindow r′ (record { step = suc j; from = v .fresh; fresh = v .end; end = m }) a
             lists a l k o (yes y) =
-                let s = step .noted .had a y .step-same in
+                let s = step .noted .grown .had a y .step-same in
                 let x = h .lists a l (omega (arith, s)) (has-sum a l y .1) in
                 record {
                   index = x .index;
                   begin = late x (decLt (x .index) (v .fresh)) (omega (arith, s));
-                  below = omega (arith, x .below, step .noted .more);
-                  entry = step .noted .found-kept (x .index) (x .below) ∙ x .entry;
+                  below = omega (arith, x .below, step .noted .grown .more);
+                  entry = step .noted .grown .found-kept (x .index) (x .below) ∙ x .entry;
                 }
               where
                 late : (x : InWindow r v a) → Dec (x .index < v .fresh) → j ≤ getD (r .reached) a 0 → v .fresh ≤ x .index

@@ -25,11 +25,8 @@ among-not {list} {i} {a} none not x = go (ℕ-discrete (x .index) i)
 pub noting-start : (next list : List ℕ) (step : ℕ) (r : Notes) (end : ℕ) → Kept r end → Noting next list step end r r 0 end
 noting-start next list step r end k =
     record {
-      kept = k;
-      more = omega arith;
-      had = λ a l. same a;
+      grown = record { kept = k; more = omega arith; had = λ a l. same a; found-kept = λ i l. refl };
       waited = λ a l. inl (same a, λ (x : Among list 0 a). omega (arith, x .below));
-      found-kept = λ i l. refl;
       found-new = λ i l m. absurd (omega arith);
     }
   where
@@ -42,13 +39,10 @@ module _ {next list : List ℕ} {step end i m : ℕ} {r : Notes} {reached firsts
   pub noting-passed : getD reached a 0 < never → Noting next list step end r (notes reached firsts found) (i + 1) m
   noting-passed l =
       record {
-        kept = h .kept;
-        more = h .more;
-        had = h .had;
+        grown = h .grown;
         waited = λ b w.
             ⊎-elim (λ x. inl (x .0, among-not (x .1) (λ q. omega (arith, x .0 .step-same, ap (λ (z : ℕ). getD reached z 0) (e ∙ q), l, w))))
             (λ x. inr (x .0, among-more (x .1))) (h .waited b w);
-        found-kept = h .found-kept;
         found-new = λ k p q. (among-more (h .found-new k p q .0), h .found-new k p q .1);
       }
 
@@ -58,17 +52,17 @@ module _ {next list : List ℕ} {step end i m : ℕ} {r : Notes} {reached firsts
     waits = go (decLt (getD (r .reached) a 0) never)
       where
         go : Dec (getD (r .reached) a 0 < never) → never ≤ getD (r .reached) a 0
-        go (yes m) = absurd (omega (arith, h .had a m .step-same))
+        go (yes m) = absurd (omega (arith, h .grown .had a m .step-same))
         go (no m) = omega arith
 
     pub noting-room : m < 128
-    noting-room = omega (arith, below-room never reached a step (omega (arith, h .kept .reached-long)) early l 128 few, h .kept .counted)
+    noting-room = omega (arith, below-room never reached a step (omega (arith, h .grown .kept .reached-long)) early l 128 few, h .grown .kept .counted)
 
     step-there : getD (set reached a step) a 0 ≡ step
-    step-there = getD-set-same reached a step 0 (omega (arith, h .kept .reached-long))
+    step-there = getD-set-same reached a step 0 (omega (arith, h .grown .kept .reached-long))
 
     found-there : getD (set found m a) m 0 ≡ a
-    found-there = getD-set-same found m a 0 (omega (arith, noting-room, h .kept .found-long))
+    found-there = getD-set-same found m a 0 (omega (arith, noting-room, h .grown .kept .found-long))
 
     found-other : (k : ℕ) → k < m → getD (set found m a) k 0 ≡ getD found k 0
     found-other k q = getD-set-other found m k a 0 (λ z. omega arith)
@@ -88,9 +82,9 @@ module _ {next list : List ℕ} {step end i m : ℕ} {r : Notes} {reached firsts
       own =
           record {
             step-is = step-there;
-            first-is = getD-set-same firsts a v 0 (omega (arith, h .kept .firsts-long)) ∙ f;
+            first-is = getD-set-same firsts a v 0 (omega (arith, h .grown .kept .firsts-long)) ∙ f;
             index = m;
-            begin = h .more;
+            begin = h .grown .more;
             below = omega arith;
             entry = found-there;
           }
@@ -109,17 +103,22 @@ module _ {next list : List ℕ} {step end i m : ℕ} {r : Notes} {reached firsts
       noting-more : Noting next list step end r (notes (set reached a step) (set firsts a v) (set found m a)) (i + 1) (m + 1)
       noting-more =
           record {
-            kept =
+            grown =
                 record {
-                  reached-long = length-set reached a step ∙ h .kept .reached-long;
-                  firsts-long = length-set firsts a v ∙ h .kept .firsts-long;
-                  found-long = length-set found m a ∙ h .kept .found-long;
-                  counted = rw add-one (ap suc (h .kept .counted) ∙ sym (below-more never reached a step (omega (arith, h .kept .reached-long)) early l 128 few));
+                  kept =
+                      record {
+                        reached-long = length-set reached a step ∙ h .grown .kept .reached-long;
+                        firsts-long = length-set firsts a v ∙ h .grown .kept .firsts-long;
+                        found-long = length-set found m a ∙ h .grown .kept .found-long;
+                        counted =
+                            rw add-one
+                            (ap suc (h .grown .kept .counted) ∙ sym (below-more never reached a step (omega (arith, h .grown .kept .reached-long)) early l 128 few));
+                      };
+                  more = omega (arith, h .grown .more);
+                  had = λ b p. same-other b (λ q. omega (arith, waits, ap (λ (z : ℕ). getD (r .reached) z 0) q, p)) (h .grown .had b p);
+                  found-kept = λ k p. found-other k (omega (arith, h .grown .more)) ∙ h .grown .found-kept k p;
                 };
-            more = omega (arith, h .more);
-            had = λ b p. same-other b (λ q. omega (arith, waits, ap (λ (z : ℕ). getD (r .reached) z 0) q, p)) (h .had b p);
             waited = λ b p. row b p (ℕ-discrete b a);
-            found-kept = λ k p. found-other k (omega (arith, h .more)) ∙ h .found-kept k p;
             found-new = λ k p q. at k p q (ℕ-discrete k m);
           }
         where
@@ -153,13 +152,10 @@ pub noted : {next list : List ℕ} {step end n m rows : ℕ} {r r′ : Notes} �
     → Noted next step end r r′ m rows
 noted l h =
     record {
-      kept = h .kept;
-      more = h .more;
-      had = h .had;
+      grown = h .grown;
       new = λ a s w o. ⊎-elim (λ x. absurd (x .1 (l .lists a s o))) (λ x. x .0) (h .waited a w);
       waits = λ a s w o.
           ⊎-elim (λ x. x .0) (λ x. absurd (omega (arith, rw (x .1 .entry) at (l .taken (x .1 .index) (x .1 .below))))) (h .waited a w);
-      found-kept = h .found-kept;
       found-new = λ i p q.
           let x = h .found-new i p q in
           (rw (x .0 .entry) at (l .in-rows (x .0 .index) (x .0 .below)), x .1);

@@ -224,24 +224,25 @@ pub record New (next : List ℕ) (step end : ℕ) (r′ : Notes) (m a : ℕ) : T
   pub below : index < m
   pub entry : getD (r′ .found) index 0 ≡ a
 
--- the first n rows of a list were gone through: those that were not reached are now
-pub record Noting (next list : List ℕ) (step end : ℕ) (r r′ : Notes) (n m : ℕ) : Type 0 where
+-- more rows are reached: those that were keep their notes and their places in the order
+pub record Grown (end : ℕ) (r r′ : Notes) (m : ℕ) : Type 0 where
   pub kept : Kept r′ m
   pub more : end ≤ m
   pub had : (a : ℕ) → getD (r .reached) a 0 < never → Same r r′ a
+  pub found-kept : (i : ℕ) → i < end → getD (r′ .found) i 0 ≡ getD (r .found) i 0
+
+-- the first n rows of a list were gone through: those that were not reached are now
+pub record Noting (next list : List ℕ) (step end : ℕ) (r r′ : Notes) (n m : ℕ) : Type 0 where
+  pub grown : Grown end r r′ m
   pub waited : (a : ℕ) → never ≤ getD (r .reached) a 0
       → (Same r r′ a × (Among list n a → ⊥)) ⊎ (New next step end r′ m a × Among list n a)
-  pub found-kept : (i : ℕ) → i < end → getD (r′ .found) i 0 ≡ getD (r .found) i 0
   pub found-new : (i : ℕ) → end ≤ i → i < m → Among list n (getD (r′ .found) i 0) × (getD (r′ .reached) (getD (r′ .found) i 0) 0 ≡ step)
 
 -- each row that has an offer and was not reached is now; the others are as they were
 pub record Noted (next : List ℕ) (step end : ℕ) (r r′ : Notes) (m rows : ℕ) : Type 0 where
-  pub kept : Kept r′ m
-  pub more : end ≤ m
-  pub had : (a : ℕ) → getD (r .reached) a 0 < never → Same r r′ a
+  pub grown : Grown end r r′ m
   pub new : (a : ℕ) → a < rows → never ≤ getD (r .reached) a 0 → getD next a 0 < mark → New next step end r′ m a
   pub waits : (a : ℕ) → a < rows → never ≤ getD (r .reached) a 0 → mark ≤ getD next a 0 → Same r r′ a
-  pub found-kept : (i : ℕ) → i < end → getD (r′ .found) i 0 ≡ getD (r .found) i 0
   pub found-new : (i : ℕ) → end ≤ i → i < m → (getD (r′ .found) i 0 < rows) × (getD (r′ .reached) (getD (r′ .found) i 0) 0 ≡ step)
 
 -- what a step asks: what its offers ask, the rows of the window, the arrays of the rows, a list with a place more, and a step that has a number
