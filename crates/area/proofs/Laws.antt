@@ -151,6 +151,14 @@ part-num w s i h =
 pub entry-read : (w : ℕ) (s : List ℕ) (k : ℕ) → 0 < w → k < length s / w → numAt w (midOf (k * w) (k * w + w - k * w) s) 0 ≡ getD (entries w s) k 0
 entry-read w s k pos h = part-num w s (k * w) (omega (arith, le-div-iff-mul-le pos .0 h)) ∙ sym (entries-at w s k h)
 
+-- an entry that there is
+module _ (w : ℕ) (s : List ℕ) (k : ℕ) (h : k < length (entries w s)) where
+  pub entry-room : 0 < w → k * w + w ≤ length s
+  entry-room pos = omega (arith, le-div-iff-mul-le pos .0 (rw entries-length at h))
+
+  pub entry-num : num w s (k * w) ≡ getD (entries w s) k 0
+  entry-num = sym (entries-at w s k (rw entries-length at h))
+
 pub entries-past : (w : ℕ) (s : List ℕ) (k : ℕ) → length s / w ≤ k → getD (entries w s) k 0 ≡ 0
 entries-past w s k h = List·getD-eq-default (entries w s) 0 (rw entries-length h)
 

@@ -1,9 +1,14 @@
 // Little-endian numbers in byte areas. A remainder too short for an entry counts as none and stays.
-// Every function is total: what lies past the end reads 0, and a store there changes nothing.
+// What lies past the end reads 0, and a store there changes nothing: only `known` asks for an entry that there is.
 ghost use mathlib.Core.Path.{_≡_};
 ghost use Prim.Native.Nat.{_<_};
 ghost use lib.ListN.{length, getD, replicate};
 ghost use Rattle.area.specs.Entries.{numAt, putAt, entries, Stored, Cleared};
+
+mod known;
+
+pub use known::known_u16;
+pub use known::known_u32;
 
 // The 16-bit number at byte i.
 pub fn num_u16(s: &[u8], i: usize) -> u16

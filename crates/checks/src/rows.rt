@@ -62,8 +62,8 @@ fn follow_steps(
     let mut paid = 0;
     let mut i = 0;
     while i < count {
-        let next = area::entry_u16(places, i) as usize;
-        let sum = area::entry_u32(sums, i);
+        let next = area::known_u16(places, i) as usize;
+        let sum = area::known_u32(sums, i);
         if last < next {
             return Checked::Unsafe;
         }

@@ -27,8 +27,8 @@ pub(crate) fn follows(
     let mut paid = 0;
     let mut i = 0;
     while i < count {
-        let place = area::entry_u16(places, i) as usize;
-        let sum = area::entry_u32(sums, i);
+        let place = area::known_u16(places, i) as usize;
+        let sum = area::known_u32(sums, i);
         if place < c.place {
             return false;
         }

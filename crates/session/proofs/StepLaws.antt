@@ -1,15 +1,12 @@
 -- A step read from the areas is the plan's. Assumes nothing.
-use mathlib.Core.Path.{_≡_, sym}
+use mathlib.Core.Path.{_≡_}
 use mathlib.Core.Bool.{true, false}
 use mathlib.Core.List.{List}
-use Prim.Native.Nat.{ℕ, suc, _+_, _*_, _≤_, _<_}
-use native.Mathlib.Nat.{le-div-iff-mul-le}
+use Prim.Native.Nat.{ℕ, suc, _+_, _<_}
 use native.Mathlib.Numerals.{add-one}
-use native.Mathlib.Omega.{arith}
 use borrow.Author.Tests.{eq-eqb, ne-eqb}
 use lib.ListN.{length, getD}
-use Rattle.area.specs.Entries.{num, entries}
-use Rattle.area.proofs.Laws.{entries-length, entries-at}
+use Rattle.area.specs.Entries.{entries}
 use Rattle.exchange.specs.Deal.{start, after}
 use Rattle.exchange.specs.PlanIn.{planIn}
 use Rattle.session.specs.Session.{entryOf, moves, marked, awaited, done, atStep}
@@ -18,15 +15,6 @@ use Rattle.session.specs.declared.Session.{Session}
 use Rattle.session.specs.declared.Side.{Side}
 use Rattle.session.specs.declared.Side.the-variants.{Delivery, Payment}
 use Rattle.session.proofs.PlanLaws.{held-after, held-before}
-
--- ---- the bytes of an entry
-
-module _ (w : ℕ) (s : List ℕ) (k : ℕ) (h : k < length (entries w s)) where
-  pub entry-room : 0 < w → k * w + w ≤ length s
-  entry-room pos = omega (arith, le-div-iff-mul-le pos .0 (rw entries-length at h))
-
-  pub entry-num : num w s (k * w) ≡ getD (entries w s) k 0
-  entry-num = sym (entries-at w s k (rw entries-length at h))
 
 -- ---- the step after k steps
 

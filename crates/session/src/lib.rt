@@ -9,7 +9,6 @@ ghost use Rattle.session.specs.Opening.{Opens};
 ghost use Rattle.session.specs.Code.{Open, StandsAt};
 ghost use Rattle.session.specs.declared.Side.{Side};
 
-mod entries;
 mod step;
 
 use planning::Checked;
@@ -86,10 +85,10 @@ fn pass_over(count: usize, places: &[u8], sums: &[u8], k: usize, place: u32, sum
 {
     let mut passed = k;
     while passed < count {
-        if entries::place_at(places, passed) != place {
+        if area::known_u16(places, passed) != place {
             return at_step(passed);
         }
-        if entries::sum_at(sums, passed) != sum {
+        if area::known_u32(sums, passed) != sum {
             return at_step(passed);
         }
         passed += 1;
@@ -134,14 +133,14 @@ impl Session {
         ensures { λ r. ⌜ Reports (reportIn count (now (places .entry)) (now (sums .entry)) self Side.Delivery number) self r ⌝ }
     {
         let k = self.passed;
-        let place = entries::place_at(places, k);
+        let place = area::known_u16(places, k);
         if place != number {
             return answer(Reply::Unfit, self);
         }
         if !step::delivery_outstanding(places, k, place, self.delivered) {
             return answer(Reply::Unfit, self);
         }
-        let sum = entries::sum_at(sums, k);
+        let sum = area::known_u32(sums, k);
         if step::payment_outstanding(sums, k, sum, self.paid) {
             self.delivered = true;
             return answer(Reply::Taken, self);
@@ -156,14 +155,14 @@ impl Session {
         ensures { λ r. ⌜ Reports (reportIn count (now (places .entry)) (now (sums .entry)) self Side.Payment number) self r ⌝ }
     {
         let k = self.passed;
-        let sum = entries::sum_at(sums, k);
+        let sum = area::known_u32(sums, k);
         if sum != number {
             return answer(Reply::Unfit, self);
         }
         if !step::payment_outstanding(sums, k, sum, self.paid) {
             return answer(Reply::Unfit, self);
         }
-        let place = entries::place_at(places, k);
+        let place = area::known_u16(places, k);
         if step::delivery_outstanding(places, k, place, self.delivered) {
             self.paid = true;
             return answer(Reply::Taken, self);

@@ -5,7 +5,6 @@ ghost use Prim.Native.Nat.{_<_};
 ghost use lib.ListN.{length};
 ghost use Rattle.area.specs.Entries.{entries};
 ghost use Rattle.session.specs.Code.{outstanding};
-use crate::entries;
 
 // Whether the delivery of the step after k steps is outstanding, given its place.
 pub(crate) fn delivery_outstanding(places: &[u8], k: usize, place: u32, delivered: bool) -> bool
@@ -18,7 +17,7 @@ pub(crate) fn delivery_outstanding(places: &[u8], k: usize, place: u32, delivere
     if k == 0 {
         return place != 0;
     }
-    place != entries::place_at(places, k - 1)
+    place != area::known_u16(places, k - 1)
 }
 
 // Whether the payment of the step after k steps is outstanding, given its sum.
@@ -32,5 +31,5 @@ pub(crate) fn payment_outstanding(sums: &[u8], k: usize, sum: u32, paid: bool) -
     if k == 0 {
         return sum != 0;
     }
-    sum != entries::sum_at(sums, k - 1)
+    sum != area::known_u32(sums, k - 1)
 }

@@ -23,23 +23,23 @@ abbrev μ-loop : tie.MeasureT-loop
 loop-holds : tie.Need-loop-holds Inv-loop μ-loop
 loop-holds c = (refl, c .before .before .pre)
 
-place-at-requires : tie.Need-place-at-requires Inv-loop μ-loop
-place-at-requires c κs = omega (arith, c .loop-test .taken, c .before .before .before .before .pre .held .places-hold)
+known-u16-requires : tie.Need-known-u16-requires Inv-loop μ-loop
+known-u16-requires c κs = omega (arith, c .loop-test .taken, c .before .before .before .before .pre .held .places-hold)
 
 at-step-requires : tie.Need-at-step-requires Inv-loop μ-loop
 at-step-requires c κs = search needs
 
 returns : tie.Need-returns Inv-loop μ-loop
-returns c = c .at-step .ensures ∙ sym (settle-stays _ _ _ (place-moves _ _ _ _ (record { held = c .before .before .before .before .before .before .before .pre .held; before-end = c .before .before .before .loop-test .taken }) (c .before .before .place-at .ensures) refl (c .before .before .before .before .loop .inv .1) (c .before .if1 .taken))) ∙ c .before .before .before .before .loop .inv .0
+returns c = c .at-step .ensures ∙ sym (settle-stays _ _ _ (place-moves _ _ _ _ (record { held = c .before .before .before .before .before .before .before .pre .held; before-end = c .before .before .before .loop-test .taken }) (c .before .before .known-u16 .ensures) refl (c .before .before .before .before .loop .inv .1) (c .before .if1 .taken))) ∙ c .before .before .before .before .loop .inv .0
 
-sum-at-requires : tie.Need-sum-at-requires Inv-loop μ-loop
-sum-at-requires c κs = omega (arith, c .before .before .loop-test .taken, c .before .before .before .before .before .before .pre .held .sums-hold)
+known-u32-requires : tie.Need-known-u32-requires Inv-loop μ-loop
+known-u32-requires c κs = omega (arith, c .before .before .loop-test .taken, c .before .before .before .before .before .before .pre .held .sums-hold)
 
 at-step-requires-2 : tie.Need-at-step-requires-2 Inv-loop μ-loop
 at-step-requires-2 c κs = search needs
 
 returns-2 : tie.Need-returns-2 Inv-loop μ-loop
-returns-2 c = c .at-step2 .ensures ∙ sym (settle-stays _ _ _ (sum-moves _ _ _ _ (record { held = c .before .before .before .before .before .before .before .before .before .pre .held; before-end = c .before .before .before .before .before .loop-test .taken }) (c .before .before .before .before .place-at .ensures) (c .before .before .sum-at .ensures) (c .before .before .before .before .before .before .loop .inv .1) (c .before .before .before .if1 .left) (c .before .if2 .taken))) ∙ c .before .before .before .before .before .before .loop .inv .0
+returns-2 c = c .at-step2 .ensures ∙ sym (settle-stays _ _ _ (sum-moves _ _ _ _ (record { held = c .before .before .before .before .before .before .before .before .before .pre .held; before-end = c .before .before .before .before .before .loop-test .taken }) (c .before .before .before .before .known-u16 .ensures) (c .before .before .known-u32 .ensures) (c .before .before .before .before .before .before .loop .inv .1) (c .before .before .before .if1 .left) (c .before .if2 .taken))) ∙ c .before .before .before .before .before .before .loop .inv .0
 
 add-passed : tie.Need-add-passed Inv-loop μ-loop
 add-passed c = omega (arith, c .before .before .before .before .loop-test .taken, c .before .before .before .before .before .before .before .before .fits .count .fits)
@@ -48,7 +48,7 @@ loop-less : tie.Need-loop-less Inv-loop μ-loop
 loop-less c = omega (arith, c .before .before .before .before .loop-test .taken)
 
 loop-again : tie.Need-loop-again Inv-loop μ-loop
-loop-again c = (settle-next _ _ _ (c .before .before .before .before .loop-test .taken) (none-moves _ _ _ _ (record { held = c .before .before .before .before .before .before .before .before .pre .held; before-end = c .before .before .before .before .loop-test .taken }) (c .before .before .before .place-at .ensures) (c .before .sum-at .ensures) (c .before .before .before .before .before .loop .inv .1) (c .before .before .if1 .left) (c .if2 .left)) ∙ c .before .before .before .before .before .loop .inv .0, still-stands _ _ _ _ (record { held = c .before .before .before .before .before .before .before .before .pre .held; before-end = c .before .before .before .before .loop-test .taken }) (c .before .before .before .place-at .ensures) (c .before .sum-at .ensures) (c .before .before .before .before .before .loop .inv .1) (c .before .before .if1 .left) (c .if2 .left))
+loop-again c = (settle-next _ _ _ (c .before .before .before .before .loop-test .taken) (none-moves _ _ _ _ (record { held = c .before .before .before .before .before .before .before .before .pre .held; before-end = c .before .before .before .before .loop-test .taken }) (c .before .before .before .known-u16 .ensures) (c .before .known-u32 .ensures) (c .before .before .before .before .before .loop .inv .1) (c .before .before .if1 .left) (c .if2 .left)) ∙ c .before .before .before .before .before .loop .inv .0, still-stands _ _ _ _ (record { held = c .before .before .before .before .before .before .before .before .pre .held; before-end = c .before .before .before .before .loop-test .taken }) (c .before .before .before .known-u16 .ensures) (c .before .known-u32 .ensures) (c .before .before .before .before .before .loop .inv .1) (c .before .before .if1 .left) (c .if2 .left))
 
 at-step-requires-3 : tie.Need-at-step-requires-3 Inv-loop μ-loop
 at-step-requires-3 c κs = search needs
@@ -63,10 +63,10 @@ pass-over-spec =
     Inv-loop
     μ-loop
     loop-holds
-    place-at-requires
+    known-u16-requires
     at-step-requires
     returns
-    sum-at-requires
+    known-u32-requires
     at-step-requires-2
     returns-2
     add-passed

@@ -3,6 +3,7 @@
 use Prim.Native.Nat.{_-_}
 use native.Mathlib.Omega.{arith}
 use borrow.Author.Needs.{needs}
+use Rattle.checks.proofs.CheckLaws.{held-entries}
 use Rattle.checks.proofs.RowLaws.{Passed, some-rows, next-within, passed-start, passed-next, above, no-step, wrong-row, wrong-sum, arrived}
 use Rattle.checks.proofs.rows.follow_steps.Statement.{statement}
 use Rattle.checks.proofs.rows.follow_steps.Tie as tie
@@ -19,25 +20,25 @@ sub-last c = some-rows _ _ _ _ _ _ _ (c .before .before .before .before .before 
 loop-holds : tie.Need-loop-holds Inv-loop μ-loop
 loop-holds c = passed-start _ _ _ _ _ _ _ (c .before .before .before .before .before .pre .0)
 
-entry-u16-requires : tie.Need-entry-u16-requires Inv-loop μ-loop
-entry-u16-requires c κs = tt
+known-u16-requires : tie.Need-known-u16-requires Inv-loop μ-loop
+known-u16-requires c κs = omega (arith, held-entries _ _ _ (c .before .before .before .before .before .before .before .pre .0 .held) .0, c .loop-test .taken)
 
 cast-next : tie.Need-cast-next Inv-loop μ-loop
 cast-next c = search needs
 
-entry-u32-requires : tie.Need-entry-u32-requires Inv-loop μ-loop
-entry-u32-requires c κs = tt
+known-u32-requires : tie.Need-known-u32-requires Inv-loop μ-loop
+known-u32-requires c κs = omega (arith, held-entries _ _ _ (c .before .before .before .before .before .before .before .before .pre .0 .held) .1, c .before .loop-test .taken)
 
 returns : tie.Need-returns Inv-loop μ-loop
 returns c =
-    above _ _ _ _ _ _ _ (c .before .before .before .before .before .before .before .before .before .before .pre .0) (c .before .before .before .before .loop .inv) (c .before .before .before .loop-test .taken) (c .before .before .entry-u16 .ensures) (c .before .entry-u32 .ensures) (c .if1 .taken)
+    above _ _ _ _ _ _ _ (c .before .before .before .before .before .before .before .before .before .before .pre .0) (c .before .before .before .before .loop .inv) (c .before .before .before .loop-test .taken) (c .before .before .known-u16 .ensures) (c .before .known-u32 .ensures) (c .if1 .taken)
 
 is-step-requires : tie.Need-is-step-requires Inv-loop μ-loop
-is-step-requires c κs = (c .before .before .before .before .before .before .before .before .before .before .pre .0 .valid, c .before .before .before .before .before .before .before .before .before .before .pre .1, c .before .before .before .before .loop .inv .at, next-within _ _ _ _ _ _ _ (c .before .before .before .before .before .before .before .before .before .before .pre .0) (c .before .before .before .before .loop .inv) (c .before .before .before .loop-test .taken) (c .before .before .entry-u16 .ensures) (c .before .entry-u32 .ensures) (c .if1 .left))
+is-step-requires c κs = (c .before .before .before .before .before .before .before .before .before .before .pre .0 .valid, c .before .before .before .before .before .before .before .before .before .before .pre .1, c .before .before .before .before .loop .inv .at, next-within _ _ _ _ _ _ _ (c .before .before .before .before .before .before .before .before .before .before .pre .0) (c .before .before .before .before .loop .inv) (c .before .before .before .loop-test .taken) (c .before .before .known-u16 .ensures) (c .before .known-u32 .ensures) (c .if1 .left))
 
 returns-2 : tie.Need-returns-2 Inv-loop μ-loop
 returns-2 c =
-    no-step _ _ _ _ _ _ _ (c .before .before .before .before .before .before .before .before .before .before .before .before .pre .0) (c .before .before .before .before .before .before .loop .inv) (c .before .before .before .before .before .loop-test .taken) (c .before .before .before .before .entry-u16 .ensures) (c .before .before .before .entry-u32 .ensures) (c .before .before .if1 .left)
+    no-step _ _ _ _ _ _ _ (c .before .before .before .before .before .before .before .before .before .before .before .before .pre .0) (c .before .before .before .before .before .before .loop .inv) (c .before .before .before .before .before .loop-test .taken) (c .before .before .before .before .known-u16 .ensures) (c .before .before .before .known-u32 .ensures) (c .before .before .if1 .left)
     (c .before .is-step .ensures) (c .if2 .taken)
 
 add-i : tie.Need-add-i Inv-loop μ-loop
@@ -48,7 +49,7 @@ loop-less c = omega (arith, c .before .before .before .before .before .loop-test
 
 loop-again : tie.Need-loop-again Inv-loop μ-loop
 loop-again c =
-    passed-next _ _ _ _ _ _ _ (c .before .before .before .before .before .before .before .before .before .before .before .before .pre .0) (c .before .before .before .before .before .before .loop .inv) (c .before .before .before .before .before .loop-test .taken) (c .before .before .before .before .entry-u16 .ensures) (c .before .before .before .entry-u32 .ensures) (c .before .before .if1 .left)
+    passed-next _ _ _ _ _ _ _ (c .before .before .before .before .before .before .before .before .before .before .before .before .pre .0) (c .before .before .before .before .before .before .loop .inv) (c .before .before .before .before .before .loop-test .taken) (c .before .before .before .before .known-u16 .ensures) (c .before .before .before .known-u32 .ensures) (c .before .before .if1 .left)
     (c .before .is-step .ensures) (c .if2 .left)
 
 returns-3 : tie.Need-returns-3 Inv-loop μ-loop
@@ -68,9 +69,9 @@ follow-steps-spec =
     μ-loop
     sub-last
     loop-holds
-    entry-u16-requires
+    known-u16-requires
     cast-next
-    entry-u32-requires
+    known-u32-requires
     returns
     is-step-requires
     returns-2

@@ -10,15 +10,15 @@ returns c = marked-not _ _ _ (c .if1 .taken)
 returns-2 : tie.Need-returns-2
 returns-2 c = first-outstanding _ _ (c .before .if1 .left) _ (c .if2 .taken)
 
-sub-place-at : tie.Need-sub-place-at
-sub-place-at c = search needs
+sub-known-u16 : tie.Need-sub-known-u16
+sub-known-u16 c = search needs
 
-place-at-requires : tie.Need-place-at-requires
-place-at-requires c κs = search needs
+known-u16-requires : tie.Need-known-u16-requires
+known-u16-requires c κs = search needs
 
 returns-3 : tie.Need-returns-3
-returns-3 c = later-outstanding _ _ (c .before .before .if1 .left) _ (c .before .if2 .left) (c .place-at .ensures)
+returns-3 c = later-outstanding _ _ (c .before .before .if1 .left) _ (c .before .if2 .left) (c .known-u16 .ensures)
 
 pub delivery-outstanding-spec : {M : Type 1} → statement M
 delivery-outstanding-spec =
-    tie.close (tie.spec returns returns-2 sub-place-at place-at-requires returns-3)
+    tie.close (tie.spec returns returns-2 sub-known-u16 known-u16-requires returns-3)

@@ -10,15 +10,15 @@ returns c = marked-not _ _ _ (c .if1 .taken)
 returns-2 : tie.Need-returns-2
 returns-2 c = first-outstanding _ _ (c .before .if1 .left) _ (c .if2 .taken)
 
-sub-sum-at : tie.Need-sub-sum-at
-sub-sum-at c = search needs
+sub-known-u32 : tie.Need-sub-known-u32
+sub-known-u32 c = search needs
 
-sum-at-requires : tie.Need-sum-at-requires
-sum-at-requires c κs = search needs
+known-u32-requires : tie.Need-known-u32-requires
+known-u32-requires c κs = search needs
 
 returns-3 : tie.Need-returns-3
-returns-3 c = later-outstanding _ _ (c .before .before .if1 .left) _ (c .before .if2 .left) (c .sum-at .ensures)
+returns-3 c = later-outstanding _ _ (c .before .before .if1 .left) _ (c .before .if2 .left) (c .known-u32 .ensures)
 
 pub payment-outstanding-spec : {M : Type 1} → statement M
 payment-outstanding-spec =
-    tie.close (tie.spec returns returns-2 sub-sum-at sum-at-requires returns-3)
+    tie.close (tie.spec returns returns-2 sub-known-u32 known-u32-requires returns-3)

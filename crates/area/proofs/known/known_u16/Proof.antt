@@ -1,0 +1,48 @@
+use native.Mathlib.Omega.{arith}
+use Rattle.area.specs.Entries.{num}
+use Rattle.area.proofs.Laws.{entry-room, entry-num}
+use borrow.Author.Needs.{needs}
+use Rattle.area.proofs.known.known_u16.Statement.{statement}
+use Rattle.area.proofs.known.known_u16.Tie as tie
+
+mul-i : tie.Need-mul-i
+mul-i c = omega (arith, entry-room 2 _ _ (c .before .pre) (omega arith))
+
+add-j : tie.Need-add-j
+add-j c = omega (arith, entry-room 2 _ _ (c .before .pre) (omega arith))
+
+shared-slice-read-wide32 : tie.Need-shared-slice-read-wide32
+shared-slice-read-wide32 c = omega (arith, entry-room 2 _ _ (c .before .before .pre) (omega arith))
+
+wide32-requires : tie.Need-wide32-requires
+wide32-requires c κs = search needs
+
+shared-slice-read-wide32-2 : tie.Need-shared-slice-read-wide32-2
+shared-slice-read-wide32-2 c = omega (arith, entry-room 2 _ _ (c .before .before .before .before .pre) (omega arith))
+
+wide32-requires-2 : tie.Need-wide32-requires-2
+wide32-requires-2 c κs = search needs
+
+mul-result : tie.Need-mul-result
+mul-result c = search needs
+
+add-result : tie.Need-add-result
+add-result c = search needs
+
+returns : tie.Need-returns
+unfolding num
+returns c = omega (arith, entry-num 2 _ _ (c .before .before .before .before .before .pre))
+
+pub known-u16-spec : {M : Type 1} → statement M
+known-u16-spec =
+    tie.close
+    (tie.spec
+    mul-i
+    add-j
+    shared-slice-read-wide32
+    wide32-requires
+    shared-slice-read-wide32-2
+    wide32-requires-2
+    mul-result
+    add-result
+    returns)
