@@ -3,8 +3,8 @@
 use mathlib.Core.Path.{_≡_, refl, sym, ap₂, subst, _∙_}
 use mathlib.Core.Bool.{true, _&&_}
 use mathlib.Core.List.{List, [], _∷_}
-use Prim.Native.Nat.{ℕ, zero, suc, _+_, _-_, _*_, _/_, _%_, _≤_, _<_}
-use native.Mathlib.Decide.{le-ind, decLt}
+use Prim.Native.Nat.{ℕ, suc, _+_, _-_, _*_, _/_, _%_, _≤_, _<_}
+use native.Mathlib.Decide.{le-ind}
 use native.Mathlib.Nat.{add-zero, le-refl, le-trans, mod-lt, mod-eq-of-lt, div-eq-of-lt, div-add-mod', div-lt-iff-lt-mul, mul-add-div-right, mul-add-mod-self-right, mul-le-mul-right, zero-div, zero-mod, zero-mul, zero-add}
 use native.Mathlib.Omega.{arith}
 use mir.Facts.{and-yes}
@@ -12,7 +12,7 @@ use borrow.Author.Tests.{lt-ltb, le-leb}
 use lib.Dec.{T, leb, leb→le}
 use lib.ListN.{getD}
 use Rattle.grid.specs.Rows.{rowsOf, lessOne, largestBelow, rising}
-use Rattle.grid.proofs.RowLaws.{rows-pos, rising-last}
+use Rattle.grid.proofs.RowLaws.{rows-pos, rising-at}
 use Rattle.exchange.specs.Forms.{holdsRow}
 
 -- ---- which rows hold the units of another
@@ -108,18 +108,7 @@ module _ (cells : List ℕ) where
       (subst T others (both .1)))
       (more u us k local (b % R) (a / R) (b / R) (mod-lt b pos) units (omega arith)))
 
-  rising-at : (us : List ℕ) (n : ℕ) → rising us cells n ≡ true → (r : ℕ) → r < n → largestBelow us cells r ≤ getD cells r 0
-  rising-at us zero e r h = absurd (omega arith)
-  rising-at us (suc n) e r h =
-      let split = rising-last us cells n e in
-      go (rising-at us n (split .0) r) (split .1) (decLt r n)
-    where
-      go : (r < n → largestBelow us cells r ≤ getD cells r 0) → largestBelow us cells n ≤ getD cells n 0 → Dec (r < n)
-          → largestBelow us cells r ≤ getD cells r 0
-      go before here (yes l) = before l
-      go before here (no m) = let same : r ≡ n = omega arith in rw same here
-
   pub rows-rise : (us : List ℕ) → rising us cells (rowsOf us) ≡ true → (a b : ℕ) → a < rowsOf us → b < rowsOf us → T (holdsRow us a b)
       → getD cells a 0 ≤ getD cells b 0
   rows-rise us e a b ha hb t =
-      simp (zero-mul, zero-add) at (round-rises us 0 (λ r l. simp (zero-mul, zero-add) (rising-at us (rowsOf us) e r l)) a b ha hb t)
+      simp (zero-mul, zero-add) at (round-rises us 0 (λ r l. simp (zero-mul, zero-add) (rising-at us cells (rowsOf us) e r l)) a b ha hb t)

@@ -78,7 +78,7 @@ no-byte us r i small h =
 
 module _ (us strides cells : List ℕ) (r : ℕ) (small : Small us) (known : Strides us strides) where
   -- the byte of one of the last items
-  byte-is : (i : ℕ) → i < length us → packed us r / 256 ^ i % 256 ≡ r / getD strides i 0 % (getD us (length us - suc i) 0 + 1)
+  pub byte-is : (i : ℕ) → i < length us → packed us r / 256 ^ i % 256 ≡ r / getD strides i 0 % (getD us (length us - suc i) 0 + 1)
   byte-is i h =
       let at : length us - suc (length us - suc i) ≡ i = omega arith in
       let next : length us - suc i + 1 ≡ length us - i = omega arith in

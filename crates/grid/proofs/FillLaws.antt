@@ -77,41 +77,6 @@ module _ {us map gs before cells : List ℕ} {used last : ℕ} {rises : Bool} {r
         rises-is = rw e (f .rises-is);
       }
 
--- the first r cells are the given ones, and the others as before
-pub record Copying (gs before cells : List ℕ) (r : ℕ) : Type 0 where
-  pub within : r ≤ length before
-  pub enough : length before ≤ length gs
-  pub cells-are : cells ≡ take r gs ++ drop r before
-
-pub copying-start : (gs before : List ℕ) → length before ≤ length gs → Copying gs before before 0
-copying-start gs before h = record { within = omega arith; enough = h; cells-are = refl }
-
-module _ {gs before cells : List ℕ} {r : ℕ} (f : Copying gs before cells r) where
-  copied : length (take r gs) ≡ r
-  copied = length-take-le r gs (omega (arith, f .within, f .enough))
-
-  pub copying-length : length cells ≡ length before
-  copying-length = ap length (f .cells-are) ∙ length-front before (take r gs) r (copied ∙ sym (length-take-le r before (f .within)))
-
-  -- one cell more
-  pub copying-turn : {v : ℕ} → r < length cells → v ≡ getD gs r 0 → Copying gs before (set cells r v) (r + 1)
-  copying-turn {v} h e =
-      let l : r < length before = rw copying-length at h in
-      rw add-one
-      (record {
-        within = l;
-        enough = f .enough;
-        cells-are =
-            ap (λ (xs : List ℕ). set xs r v) (f .cells-are) ∙ front-store (take r gs) before r v copied l
-            ∙ rw (take-suc gs r 0 (omega (arith, f .enough)), e);
-      })
-
-  pub copying-done : length cells ≤ r → cells ≡ take (length before) gs
-  copying-done h =
-      let l : length cells ≡ length before = copying-length in
-      let e : r ≡ length before = omega (arith, f .within) in
-      f .cells-are ∙ rw (e, drop-length, append-nil)
-
 -- where every row stands, the cells are the given ones in order
 pub all-filled : (us map gs : List ℕ) (n : ℕ) → standing map n ≡ n → n ≤ length gs → filled us map gs n ≡ take n gs
 unfolding filled standing

@@ -1,4 +1,5 @@
 pub mod RowLaws
+pub mod LastLaws
 pub mod UnitLaws
 pub mod BelowLaws
 pub mod MapLaws

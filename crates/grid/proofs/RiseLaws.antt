@@ -1,34 +1,93 @@
--- Rising, item by item. Assumes nothing.
+-- Rising, by the units in the words of the rows. Assumes nothing.
 use mathlib.Core.Path.{_≡_, refl, sym, ap, ap₂, _∙_}
 use mathlib.Core.Bool.{Bool, true, false, cond, _&&_, and-true}
 use mathlib.Core.List.{List, [], _∷_}
-use Prim.Native.Nat.{ℕ, zero, suc, _+_, _-_, _*_, _/_, _%_, _≤_, _<_, max}
-use native.Mathlib.Nat.{add-assoc, add-mod-right, add-suc, add-zero, zero-add, le-mul-of-pos-right, mod-add-mod, mod-eq-of-lt, mod-eq-sub-mod, mod-lt, mul-mod-right, mul-zero, sub-zero, zero-mod}
-use native.Mathlib.Numerals.{add-one}
+use Prim.Native.Nat.{ℕ, zero, suc, _+_, _-_, _*_, _/_, _%_, _^_, _≤_, _<_, max}
+use native.Mathlib.Nat.{add-suc, add-zero, div-eq-of-lt, div-lt-iff-lt-mul, div-one, le-div-iff-mul-le, mod-eq-of-lt, one-mul, zero-div, zero-mod}
 use native.Mathlib.Decide.{decLt}
 use native.Mathlib.Omega.{arith}
 use borrow.Author.Tests.{lt-ltb, le-leb, lt-leb}
 use lib.Dec.{ltb, leb}
-use lib.ListN.{length, getD, take, drop}
-use lib.Seq.{drop-cons, drop-length}
+use lib.ListN.{length, getD, drop}
+use lib.Seq.{drop-drop}
 use Rattle.grid.specs.Rows.{rowsOf, lessOne, largestBelow, rising}
-use Rattle.grid.specs.Rise.{risingIn, runRises, Rounds}
-use Rattle.grid.proofs.RowLaws.{rest-mul, rows-pos, rows-drop, rows-split, rows-end, rows-turn}
+use Rattle.grid.specs.Units.{packed, Small, RowUnits}
+use Rattle.grid.specs.Cells.{Sized}
+use Rattle.grid.specs.Below.{Strides, belowBy}
+use Rattle.grid.specs.Rise.{allRows, notBelow, unitNotBelow, rowRises, rowsBy, Segment}
+use Rattle.grid.proofs.RowLaws.{rows-pos, rows-drop, rows-cons, rows-end}
+use Rattle.grid.proofs.BelowLaws.{byte-is, no-byte, largest-all}
 
--- ---- rounds of k * n rows
+-- ---- rows that pass a test
 
--- a row has a unit of an item, which takes k rows a unit, if it is k rows or more into the round
-unit-test : (r k n : ℕ) → 0 < k → 0 < n → ltb 0 (r / k % n) ≡ leb k (r % (k * n))
-unit-test r k n a b = rw (rest-mul r k n a b) (go (decLt 0 (r / k % n)))
+and-assoc : (a b c : Bool) → ((a && b) && c) ≡ (a && (b && c))
+and-assoc true b c = refl
+and-assoc false b c = refl
+
+-- one row more
+pub all-turn : (test : ℕ → Bool) (from r : ℕ) (a b : Bool) {b′ : Bool} → from ≤ r → b ≡ (a && allRows test from (r - from)) → b′ ≡ (b && test r)
+    → b′ ≡ (a && allRows test from (r + 1 - from))
+unfolding allRows
+all-turn test from r a b h e f =
+    let n : r + 1 - from ≡ suc (r - from) = omega arith in
+    let at : from + (r - from) ≡ r = omega arith in
+    rw (n, at) (f ∙ rw e (and-assoc a (allRows test from (r - from)) (test r)))
+
+-- rows that rise so far, and further ones by a test that says whether they do
+pub rising-more : (us cells : List ℕ) (test : ℕ → Bool) (from n : ℕ)
+    → ((r : ℕ) → from ≤ r → r < from + n → test r ≡ leb (largestBelow us cells r) (getD cells r 0))
+    → (rising us cells from && allRows test from n) ≡ rising us cells (from + n)
+unfolding rising allRows
+rising-more us cells test from zero h = rw add-zero (and-true (rising us cells from))
+rising-more us cells test from (suc n) h =
+    let so-far : (rising us cells from && allRows test from n) ≡ rising us cells (from + n) = rising-more us cells test from n (λ r a b. h r a (omega arith)) in
+    rw (add-suc from n, ← so-far, ← h (from + n) (omega arith) (omega arith)) (sym (and-assoc (rising us cells from) (allRows test from n) (test (from + n))))
+
+-- row 0 has no unit, so that it rises
+none-below : (us cells : List ℕ) → largestBelow us cells 0 ≡ 0
+unfolding largestBelow lessOne
+none-below [] cells = refl
+none-below (u ∷ us) cells = rw (none-below us cells, zero-div, zero-mod)
+
+pub first-rises : (us cells : List ℕ) → rising us cells 1 ≡ true
+unfolding rising
+first-rises us cells = rw (none-below us cells) (le-leb 0 (getD cells 0 0) (omega arith))
+
+-- ---- the rows of the last items
+
+-- the rows of the last i items, which the item before them takes a unit
+abbrev pub lastRows : List ℕ → ℕ → ℕ
+lastRows us i = rowsOf (drop (length us - i) us)
+
+pub last-none : (us : List ℕ) → lastRows us 0 ≡ 1
+last-none us =
+    let all : length us - 0 ≡ length us = omega arith in
+    rw all (rows-end us)
+
+last-next : (us : List ℕ) (i : ℕ) → i < length us → lastRows us (suc i) ≡ lastRows us i * (getD us (length us - suc i) 0 + 1)
+last-next us i h =
+    let next : length us - suc i + 1 ≡ length us - i = omega arith in
+    rows-cons (length us - suc i) us (omega arith) ∙ rw next
+
+last-le : (us : List ℕ) (i j : ℕ) → i ≤ j → j ≤ length us → lastRows us i ≤ lastRows us j
+last-le us i j h l =
+    let at : length us - j + (j - i) ≡ length us - i = omega arith in
+    rw (drop-drop (j - i) (length us - j) us, at) at (rows-drop (j - i) (drop (length us - j) us))
+
+abbrev stridesOf : List ℕ → List ℕ
+stridesOf us = lastRows us 0 ∷ lastRows us 1 ∷ lastRows us 2 ∷ lastRows us 3 ∷ []
+
+strides-known : (us : List ℕ) → Small us → Strides us (stridesOf us)
+strides-known us small = record { first = last-none us; stride-at = at }
   where
-    go : Dec (0 < r / k % n) → ltb 0 (r / k % n) ≡ leb k (k * (r / k % n) + r % k)
-    go (yes l) = let m : k ≤ k * (r / k % n) = le-mul-of-pos-right k l in rw (lt-ltb 0 (r / k % n) l, le-leb k (k * (r / k % n) + r % k) (omega arith))
-    go (no l) =
-        let z : r / k % n ≡ 0 = omega arith in
-        let m : r % k < k = mod-lt r a in
-        rw z (rw mul-zero (sym (lt-leb k (0 + r % k) (omega arith))))
+    at : (i : ℕ) → i < length us → getD (stridesOf us) i 0 ≡ lastRows us i
+    at zero h = refl
+    at (suc zero) h = refl
+    at (suc (suc zero)) h = refl
+    at (suc (suc (suc zero))) h = refl
+    at (suc (suc (suc (suc i)))) h = absurd (omega (arith, small .items))
 
--- ---- rising, and one item more
+-- ---- a row, item by item
 
 leb-max : (a b v : ℕ) → leb (max a b) v ≡ (leb a v && leb b v)
 leb-max a b v = go (decLt v a) (decLt v b)
@@ -38,153 +97,181 @@ leb-max a b v = go (decLt v a) (decLt v b)
     go (no l) (yes m) = rw (le-leb a v (omega arith), lt-leb b v m, lt-leb (max a b) v (omega arith))
     go (no l) (no m) = rw (le-leb a v (omega arith), le-leb b v (omega arith), le-leb (max a b) v (omega arith))
 
-shuffle : (a b c d : Bool) → ((a && b) && (c && d)) ≡ ((a && c) && (b && d))
-shuffle true true c d = refl
-shuffle true false true d = refl
-shuffle true false false d = refl
-shuffle false b c d = refl
+again : (a b : Bool) → ((a && b) && true) ≡ ((a && b) && b)
+again true true = refl
+again true false = refl
+again false b = refl
 
-rising-cons : (u : ℕ) (us cells : List ℕ) (round n : ℕ) → ((r : ℕ) → r < n → ltb 0 (r / rowsOf us % (u + 1)) ≡ leb (rowsOf us) (r % round))
-    → rising (u ∷ us) cells n ≡ (rising us cells n && risingIn (rowsOf us) round cells n)
-unfolding rising risingIn largestBelow lessOne
-rising-cons u us cells round zero h = refl
-rising-cons u us cells round (suc n) h =
-    let v : ℕ = getD cells n 0 in
-    let k : ℕ = rowsOf us in
-    ap₂ _&&_ (rising-cons u us cells round n (λ r l. h r (omega arith)))
-    (ap (λ (t : Bool). leb (max (largestBelow us cells n) (cond t (getD cells (n - k) 0) 0)) v) (h n (omega arith)) ∙ leb-max _ _ v)
-    ∙ shuffle (rising us cells n) (risingIn k round cells n) _ _
+module _ (us cells : List ℕ) (small : Small us) (r : ℕ) where
+  abbrev unitsOf : ℕ → ℕ
+  unitsOf i = packed us r / 256 ^ i % 256
 
--- one item more, from the end
-rising-at : (j : ℕ) (us cells : List ℕ) (round n : ℕ) → j < length us
-    → ((r : ℕ) → r < n → ltb 0 (r / rowsOf (drop (j + 1) us) % (getD us j 0 + 1)) ≡ leb (rowsOf (drop (j + 1) us)) (r % round))
-    → rising (drop j us) cells n ≡ (rising (drop (j + 1) us) cells n && risingIn (rowsOf (drop (j + 1) us)) round cells n)
-rising-at j us cells round n h test =
-    ap (λ (xs : List ℕ). rising xs cells n) (drop-cons us j 0 h ∙ ap (λ (i : ℕ). getD us j 0 ∷ drop i us) (sym (add-one j)))
-    ∙ rising-cons (getD us j 0) (drop (j + 1) us) cells round n test
+  -- the test of the item that i items come after
+  abbrev itemTest : ℕ → Bool
+  itemTest i = unitNotBelow (unitsOf i) (lastRows us i) cells r
 
-rising-none : (cells : List ℕ) (n : ℕ) → rising [] cells n ≡ true
-unfolding rising largestBelow
-rising-none cells zero = refl
-rising-none cells (suc n) = rw (rising-none cells n, le-leb 0 (getD cells n 0) (omega arith))
+  by-items : leb (largestBelow us cells r) (getD cells r 0) ≡ (((unitNotBelow (packed us r % 256) 1 cells r && itemTest 1) && itemTest 2) && itemTest 3)
+  unfolding belowBy
+  by-items =
+      rw (← largest-all us (stridesOf us) cells r small (strides-known us small), leb-max, leb-max, leb-max, leb-max, le-leb 0 (getD cells r 0) (omega arith), div-one, last-none us)
 
--- ---- a round, row by row
+  byte-at : (i : ℕ) → i < length us → unitsOf i ≡ r / lastRows us i % (getD us (length us - suc i) 0 + 1)
+  byte-at i h =
+      let known = strides-known us small in
+      byte-is us (stridesOf us) cells r small known i h ∙ rw (known .stride-at i h)
 
-and-assoc : (a b c : Bool) → ((a && b) && c) ≡ (a && (b && c))
-and-assoc true b c = refl
-and-assoc false b c = refl
-
--- one row more of a run
-pub run-turn : (k from r : ℕ) (cells : List ℕ) (b : Bool) {b′ : Bool} → from ≤ r → b ≡ runRises k cells from (r - from)
-    → b′ ≡ (b && leb (getD cells (r - k) 0) (getD cells r 0)) → b′ ≡ runRises k cells from (r + 1 - from)
-unfolding runRises
-run-turn k from r cells b h e f =
-    let n : r + 1 - from ≡ suc (r - from) = omega arith in
-    let at : from + (r - from) ≡ r = omega arith in
-    rw (n, at, ← e) f
-
-module _ (k round : ℕ) (cells : List ℕ) (start : ℕ) (h : k ≤ round) (z : start % round ≡ 0) where
-  row-in : (i : ℕ) → i < round → (start + i) % round ≡ i
-  row-in i l = sym (mod-add-mod start round i) ∙ rw (z, zero-add) (mod-eq-of-lt l)
-
-  -- nothing is compared in the first k rows
-  before-run : (i : ℕ) → i ≤ k → risingIn k round cells (start + i) ≡ risingIn k round cells start
-  unfolding risingIn
-  before-run zero l = rw add-zero
-  before-run (suc i) l =
-      rw (add-suc start i, before-run i (omega arith), row-in i (omega arith), lt-leb k i l, le-leb 0 (getD cells (start + i) 0) (omega arith))
-      (and-true (risingIn k round cells start))
-
-  -- after them all are
-  in-run : (n : ℕ) → k + n ≤ round → risingIn k round cells (start + k + n) ≡ (risingIn k round cells start && runRises k cells (start + k) n)
-  unfolding risingIn runRises
-  in-run zero l = rw (add-zero, before-run k (omega arith)) (sym (and-true (risingIn k round cells start)))
-  in-run (suc n) l =
-      let row : (start + k + n) % round ≡ k + n = rw add-assoc (row-in (k + n) (omega arith)) in
-      rw (add-suc (start + k) n, in-run n (omega arith), row, le-leb k (k + n) (omega arith))
-      (and-assoc (risingIn k round cells start) (runRises k cells (start + k) n) (leb (getD cells (start + k + n - k) 0) (getD cells (start + k + n) 0)))
-
--- ---- the walk over the rounds
-
--- the rounds before row `start` are passed, and those from it on are whole
-pub record Passed (cells : List ℕ) (k round start : ℕ) (rises : Bool) : Type 0 where
-  pub within : start ≤ length cells
-  pub whole : start % round ≡ 0
-  pub rest : (length cells - start) % round ≡ 0
-  pub rises-are : rises ≡ risingIn k round cells start
-
-pub passed-start : {cells : List ℕ} {k round : ℕ} → Rounds cells k round → Passed cells k round 0 true
-unfolding risingIn
-passed-start {round = round} h =
-    record { within = omega arith; whole = zero-mod round; rest = rw sub-zero (h .whole); rises-are = refl }
-
-module _ {cells : List ℕ} {k round start : ℕ} (b : Bool) (h : Rounds cells k round) (w : Passed cells k round start b) (more : start < length cells) where
-  pub round-fits : start + round ≤ length cells
-  round-fits = go (decLt (length cells - start) round)
+  -- a row of the last i items has no unit of one before them, and so passes its test
+  no-unit : (i j : ℕ) → i ≤ j → r < lastRows us i → unitsOf j ≡ 0
+  no-unit i j h few = go (decLt j (length us))
     where
-      go : Dec (length cells - start < round) → start + round ≤ length cells
-      go (yes l) = let z : (length cells - start) % round ≡ length cells - start = mod-eq-of-lt l in absurd (omega (arith, w .rest))
-      go (no l) = omega arith
+      go : Dec (j < length us) → unitsOf j ≡ 0
+      go (yes l) =
+          let more : lastRows us i ≤ lastRows us j = last-le us i j h (omega arith) in
+          let below : r < lastRows us j = omega arith in
+          byte-at j l ∙ rw (div-eq-of-lt below) (zero-mod (getD us (length us - suc j) 0 + 1))
+      go (no l) = no-byte us r j small (omega arith)
 
-  pub passed-turn : {b′ : Bool} → b′ ≡ (b && runRises k cells (start + k) (start + round - (start + k))) → Passed cells k round (start + round) b′
-  passed-turn f =
-      let n : start + round - (start + k) ≡ round - k = omega (arith, h .begin) in
-      let end : start + k + (round - k) ≡ start + round = omega (arith, h .begin) in
-      let run : risingIn k round cells (start + round) ≡ (risingIn k round cells start && runRises k cells (start + k) (round - k)) =
-      rw end at (in-run k round cells start (h .begin) (w .whole) (round - k) (omega (arith, h .begin))) in
-      let left : length cells - (start + round) ≡ length cells - start - round = omega (arith, round-fits) in
-      record {
-        within = round-fits;
-        whole = add-mod-right start round ∙ w .whole;
-        rest = rw left (sym (mod-eq-sub-mod {m = round} (omega (arith, round-fits))) ∙ w .rest);
-        rises-are = f ∙ rw (n, w .rises-are) (sym run);
-      }
+  passes : (i : ℕ) (k : ℕ) → unitsOf i ≡ 0 → unitNotBelow (unitsOf i) k cells r ≡ true
+  passes i k e = rw e (le-leb 0 (getD cells r 0) (omega arith))
 
-pub passed-done : {cells : List ℕ} {k round start : ℕ} {b : Bool} → Passed cells k round start b → length cells ≤ start → b ≡ risingIn k round cells (length cells)
-passed-done {cells} {start = start} w h =
-    let e : start ≡ length cells = omega (arith, w .within) in
-    w .rises-are ∙ rw e
+  -- a row with a unit of an item is compared
+  compared : (i : ℕ) → i < length us → lastRows us i ≤ r → r < lastRows us (suc i) → itemTest i ≡ notBelow (lastRows us i) cells r
+  compared i l low high =
+      let k : ℕ = lastRows us i in
+      let p : 0 < k = rows-pos (drop (length us - i) us) in
+      let few : r / k < getD us (length us - suc i) 0 + 1 = div-lt-iff-lt-mul p .1 (omega (arith, last-next us i l)) in
+      let some : 0 < r / k = le-div-iff-mul-le p .1 (rw one-mul low) in
+      rw (byte-at i l, mod-eq-of-lt few, lt-ltb 0 (r / k) some)
+
+  -- ---- the rows that are added by one item, by two, by three and by four
+
+  abbrev Rises : Bool → Type 0
+  Rises b = b ≡ leb (largestBelow us cells r) (getD cells r 0)
+
+  one-item : 0 < length us → 1 ≤ r → r < lastRows us 1 → Rises (notBelow 1 cells r)
+  one-item more low high =
+      let here : unitNotBelow (packed us r % 256) 1 cells r ≡ notBelow 1 cells r = rw (div-one, last-none us) at (compared 0 more (rw (last-none us) low) high) in
+      sym
+      (by-items
+      ∙ rw (passes 1 _ (no-unit 1 1 (omega arith) high), passes 2 _ (no-unit 1 2 (omega arith) high), passes 3 _ (no-unit 1 3 (omega arith) high), here)
+      (and-true _ ∙ and-true _ ∙ and-true _))
+
+  two-items : 1 < length us → lastRows us 1 ≤ r → r < lastRows us 2 → Rises (rowRises (packed us r) (lastRows us 1) (lastRows us 1) (lastRows us 1) cells r)
+  unfolding rowRises
+  two-items more low high =
+      let none = no-unit 2 2 (omega arith) high in
+      let last : Bool = unitNotBelow (packed us r % 256) 1 cells r in
+      let here : Bool = notBelow (lastRows us 1) cells r in
+      sym
+      (by-items
+      ∙ rw (passes 2 (lastRows us 2) none, passes 2 (lastRows us 1) none, passes 3 _ (no-unit 2 3 (omega arith) high), compared 1 more low high, and-true (last && here))
+      (again last here))
+
+  three-items : 2 < length us → lastRows us 2 ≤ r → r < lastRows us 3 → Rises (rowRises (packed us r) (lastRows us 1) (lastRows us 2) (lastRows us 2) cells r)
+  unfolding rowRises
+  three-items more low high =
+      let others : Bool = unitNotBelow (packed us r % 256) 1 cells r && itemTest 1 in
+      sym (by-items ∙ rw (passes 3 _ (no-unit 3 3 (omega arith) high), compared 2 more low high) (again others (notBelow (lastRows us 2) cells r)))
+
+  four-items : 3 < length us → lastRows us 3 ≤ r → r < lastRows us 4 → Rises (rowRises (packed us r) (lastRows us 1) (lastRows us 2) (lastRows us 3) cells r)
+  unfolding rowRises
+  four-items more low high = sym (by-items ∙ rw (compared 3 more low high))
 
 -- ---- the walk over the items, from the last to the first
 
--- the items from j on are passed, in n rows: the one before them takes k rows a unit
-pub record Risen (us cells : List ℕ) (n j k : ℕ) (rises : Bool) : Type 0 where
-  pub within : j ≤ length us
-  pub stride : k ≡ rowsOf (drop j us)
-  pub rises-are : rises ≡ rising (drop j us) cells n
+-- the rows of the last i items, and whether they rise
+pub record Risen (us cells : List ℕ) (i k : ℕ) (rises : Bool) : Type 0 where
+  pub rows : k ≡ lastRows us i
+  pub rises-are : rises ≡ rising us cells k
 
-pub risen-start : (us cells : List ℕ) (n : ℕ) → Risen us cells n (length us) 1 true
-risen-start us cells n = record { within = omega arith; stride = sym (rows-end us); rises-are = rw (drop-length us) (sym (rising-none cells n)) }
+pub risen-le : {us cells : List ℕ} {i j a b : ℕ} {x y : Bool} → i ≤ j → j ≤ length us → Risen us cells i a x → Risen us cells j b y → a ≤ b
+risen-le {us} {i = i} {j = j} h l w z = omega (arith, w .rows, z .rows, last-le us i j h l)
 
-module _ {us cells : List ℕ} {j k : ℕ} (b : Bool) (all : length cells ≡ rowsOf us) (w : Risen us cells (length cells) j k b) (p : 0 < j) (m : ℕ) (e : m ≡ getD us (j - 1) 0 + 1) where
-  stride-pos : 0 < k
-  stride-pos = rw (w .stride) (rows-pos (drop j us))
+-- the rows from row k on, each by its own test
+rises-to : (us cells : List ℕ) (test : ℕ → Bool) (k to : ℕ) {first all : Bool} → k ≤ to → first ≡ rising us cells k → all ≡ (first && allRows test k (to - k))
+    → ((r : ℕ) → k ≤ r → r < to → test r ≡ leb (largestBelow us cells r) (getD cells r 0)) → all ≡ rising us cells to
+rises-to us cells test k to h e f rows =
+    let end : k + (to - k) ≡ to = omega arith in
+    f ∙ rw e (rw end at (rising-more us cells test k (to - k) (λ r a b. rows r a (omega arith))))
 
-  round : k * m ≡ rowsOf (drop (j - 1) us)
-  round = rows-turn j k m us p (w .within) (w .stride) e
-
-  pub round-le : k * m ≤ length cells
-  round-le = omega (arith, round, rows-drop (j - 1) us)
-
-  -- all rows are whole rounds of an item
-  pub item-rounds : Rounds cells k (k * m)
-  item-rounds =
+module _ {us cells : List ℕ} (sized : Sized us cells) where
+  pub risen-alone : {k : ℕ} {all : Bool} → 0 < length us → k ≡ getD us (length us - 1) 0 + 1 → all ≡ allRows (notBelow 1 cells) 1 (k - 1) → Risen us cells 1 k all
+  risen-alone {k} more e f =
+      let rows : k ≡ lastRows us 1 = e ∙ sym (last-next us 0 more ∙ rw (last-none us, one-mul)) in
       record {
-        some = stride-pos;
-        begin = le-mul-of-pos-right k (omega arith);
-        whole = rw (all, round, rows-split (j - 1) us) (mul-mod-right (rowsOf (drop (j - 1) us)) (rowsOf (take (j - 1) us)));
-      }
-
-  -- past item j - 1
-  pub risen-turn : {b′ : Bool} → b′ ≡ (b && risingIn k (k * m) cells (length cells)) → Risen us cells (length cells) (j - 1) (k * m) b′
-  risen-turn f =
-      let i : j - 1 + 1 ≡ j = omega arith in
-      record {
-        within = omega (arith, w .within);
-        stride = round;
+        rows = rows;
         rises-are =
-            f
-            ∙ sym
-            (rising-at (j - 1) us cells (k * m) (length cells) (omega (arith, w .within)) (λ r q. rw (i, ← w .stride, ← e) (unit-test r k m stride-pos (omega arith)))
-            ∙ rw (i, ← w .stride, ← w .rises-are));
+            rises-to us cells (notBelow 1 cells) 1 k (omega (arith, rows-pos (drop (length us - 1) us))) (sym (first-rises us cells)) f
+            (λ r a b. one-item us cells (sized .small) r more a (rw (← rows) b));
       }
+
+  -- one item, or none and one row
+  pub risen-single : {all : Bool} → length us < 2 → all ≡ allRows (notBelow 1 cells) 1 (length cells - 1) → all ≡ rising us cells (rowsOf us)
+  risen-single h f =
+      rw (← sized .long)
+      (rises-to us cells (notBelow 1 cells) 1 (length cells) (omega (arith, sized .long, rows-pos us)) (sym (first-rises us cells)) f
+      (λ r a b. go r a b (decLt 0 (length us))))
+    where
+      go : (r : ℕ) → 1 ≤ r → r < length cells → Dec (0 < length us) → notBelow 1 cells r ≡ leb (largestBelow us cells r) (getD cells r 0)
+      go r a b (yes l) =
+          let whole : length us - 1 ≡ 0 = omega arith in
+          one-item us cells (sized .small) r l a (rw (whole, ← sized .long) b)
+      go r a b (no l) =
+          let none : length us ≡ 0 = omega arith in
+          let one : rowsOf us ≡ 1 = rw none at (rows-end us) in
+          absurd (omega (arith, sized .long))
+
+  module _ {i k m : ℕ} (more : i < length us) (rows : k ≡ lastRows us i) (e : m ≡ getD us (length us - suc i) 0 + 1) where
+    next-rows : k * m ≡ lastRows us (suc i)
+    next-rows = rw (rows, e) (sym (last-next us i more))
+
+    pub next-le : k * m ≤ length cells
+    next-le = omega (arith, next-rows, rows-drop (length us - suc i) us, sized .long)
+
+    -- the rows that the next item adds
+    pub item-segment : {a b : ℕ} → a ≤ k → b ≤ k → Segment cells a b k (k * m)
+    item-segment h l =
+        record {
+          some = rw rows (rows-pos (drop (length us - i) us));
+          second = h;
+          third = l;
+          order = omega (arith, next-rows, last-le us i (suc i) (omega arith) more);
+          end = next-le;
+          few = omega (arith, next-le, sized .long, sized .small .rows);
+        }
+
+    risen-more : (test : ℕ → Bool) {first all : Bool} → first ≡ rising us cells k → all ≡ (first && allRows test k (k * m - k))
+        → ((r : ℕ) → lastRows us i ≤ r → r < lastRows us (suc i) → test r ≡ leb (largestBelow us cells r) (getD cells r 0)) → Risen us cells (suc i) (k * m) all
+    risen-more test f g by =
+        record {
+          rows = next-rows;
+          rises-are = rises-to us cells test k (k * m) (item-segment {a = k} {b = k} (omega arith) (omega arith) .order) f g (λ r a b. by r (rw (← rows) a) (rw (← next-rows) b));
+        }
+
+  module _ {words : List ℕ} (read : RowUnits us words (rowsOf us)) where
+    word-is : (i r : ℕ) → r < lastRows us i → getD words r 0 ≡ packed us r
+    word-is i r h = read .word-at r (omega (arith, rows-drop (length us - i) us))
+
+    pub risen-two : {a m : ℕ} {one two : Bool} → 1 < length us → Risen us cells 1 a one → m ≡ getD us (length us - 2) 0 + 1
+        → two ≡ (one && allRows (rowsBy words a a a cells) a (a * m - a)) → Risen us cells 2 (a * m) two
+    risen-two more w e f =
+        risen-more more (w .rows) e _ (w .rises-are) f (λ r low high. rw (word-is 2 r high, w .rows) (two-items us cells (sized .small) r more low high))
+
+    module _ {a b m : ℕ} {one two : Bool} (w : Risen us cells 1 a one) (x : Risen us cells 2 b two) where
+      pub risen-three : {three : Bool} → 2 < length us → m ≡ getD us (length us - 3) 0 + 1
+          → three ≡ (two && allRows (rowsBy words a b b cells) b (b * m - b)) → Risen us cells 3 (b * m) three
+      risen-three more e f =
+          risen-more more (x .rows) e _ (x .rises-are) f
+          (λ r low high. rw (word-is 3 r high, w .rows, x .rows) (three-items us cells (sized .small) r more low high))
+
+      pub risen-four : {c : ℕ} {three four : Bool} → 3 < length us → Risen us cells 3 c three → m ≡ getD us (length us - 4) 0 + 1
+          → four ≡ (three && allRows (rowsBy words a b c cells) c (c * m - c)) → Risen us cells 4 (c * m) four
+      risen-four more y e f =
+          risen-more more (y .rows) e _ (y .rises-are) f
+          (λ r low high. rw (word-is 4 r high, w .rows, x .rows, y .rows) (four-items us cells (sized .small) r more low high))
+
+-- all items
+pub risen-all : {us cells : List ℕ} {i k : ℕ} {all : Bool} → Risen us cells i k all → i ≡ length us → all ≡ rising us cells (rowsOf us)
+risen-all {us} w e =
+    let none : length us - length us ≡ 0 = omega arith in
+    w .rises-are ∙ rw (w .rows, e, none)

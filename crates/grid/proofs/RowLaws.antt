@@ -120,3 +120,15 @@ unfolding rising
 rising-last us cells r e =
     let both = and-eq-true-iff (rising us cells r) (leb (largestBelow us cells r) (getD cells r 0)) .0 e in
     (both .0, leb-true _ _ (both .1))
+
+-- so no cell of the first n rows is below the largest one unit below
+pub rising-at : (us cells : List ℕ) (n : ℕ) → rising us cells n ≡ true → (r : ℕ) → r < n → largestBelow us cells r ≤ getD cells r 0
+rising-at us cells zero e r h = absurd (omega arith)
+rising-at us cells (suc n) e r h =
+    let split = rising-last us cells n e in
+    go (rising-at us cells n (split .0) r) (split .1) (decLt r n)
+  where
+    go : (r < n → largestBelow us cells r ≤ getD cells r 0) → largestBelow us cells n ≤ getD cells n 0 → Dec (r < n)
+        → largestBelow us cells r ≤ getD cells r 0
+    go before here (yes l) = before l
+    go before here (no m) = let same : r ≡ n = omega arith in rw same here

@@ -33,7 +33,7 @@ fn larger(a: u32, b: u32) -> u32
 }
 
 // The cell with one unit less of an item, and 0 for a row without a unit of it.
-fn if_any(unit: u32, cell: u32) -> u32
+pub(crate) fn if_any(unit: u32, cell: u32) -> u32
     ensures { λ r. ⌜ r ≡ cond (ltb 0 unit) cell 0 ⌝ }
 {
     if 0 < unit { cell } else { 0 }

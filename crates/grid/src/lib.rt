@@ -1,23 +1,22 @@
 // The rows of a table: how many there are, blank cells, and row maps.
 ghost use mathlib.Core.Path.{_≡_};
 ghost use mathlib.Core.Bool.{cond, _&&_};
-ghost use Prim.Native.Nat.{_<_, _+_, _/_, _^_};
+ghost use Prim.Native.Nat.{_<_, _+_, _^_};
 ghost use lib.Dec.{leb};
 ghost use lib.ListN.{length, getD};
 ghost use Rattle.area.specs.Entries.{entries};
 ghost use Rattle.grid.specs.Rows.{rowsOf, rising};
-ghost use Rattle.grid.specs.Map.{bitAt, stands, standing, bitsFrom, marked};
+ghost use Rattle.grid.specs.Map.{bitAt, stands, bitsFrom, marked};
 ghost use Rattle.grid.specs.Cells.{rowMap, Sized, Fills};
 ghost use Rattle.grid.specs.Units.{Small, RowUnits};
 
 mod below;
-mod full;
 mod rise;
 mod units;
 
 use below::largest_below;
 pub use below::strides_of;
-use full::copy_given;
+pub use rise::all_rise;
 pub use units::all_units;
 
 // A table has at most this many rows.
@@ -126,26 +125,13 @@ fn fill_rows(units: &[u16], words: &[u32; 128], map: &[u8], given: &[u8], cells:
     rises
 }
 
-// Fills a table's cells where some are blank.
-fn fill_blanks(units: &[u16], map: &[u8], given: &[u8], cells: &mut [u32]) -> bool
+// Fills a table's cells from the given ones, and says whether none is below that of a row with one unit less of one item.
+pub fn fill(units: &[u16], map: &[u8], given: &[u8], cells: &mut [u32]) -> bool
     requires { ⌜ Sized (now units) (now cells) ⌝ }
     ensures { λ b. ⌜ Fills (now (units .entry)) (now (map .entry)) (entries 4 (now (given .entry))) (now (cells .entry)) b (now (cells .exit)) ⌝ }
 {
     let words = all_units(units);
     fill_rows(units, &words, map, given, cells)
-}
-
-// Fills a table's cells from the given ones, as many as rows stand, and says whether none is below that of a row with one unit less of
-// one item. Where every cell is given, they are copied.
-pub fn fill(units: &[u16], map: &[u8], given: &[u8], cells: &mut [u32]) -> bool
-    requires { ⌜ Sized (now units) (now cells) × (length (now given) / 4 ≡ standing (now map) (length (now cells))) ⌝ }
-    ensures { λ b. ⌜ Fills (now (units .entry)) (now (map .entry)) (entries 4 (now (given .entry))) (now (cells .entry)) b (now (cells .exit)) ⌝ }
-{
-    if cells.len() <= given.len() / 4 {
-        copy_given(given, cells);
-        return rise::all_rise(units, cells);
-    }
-    fill_blanks(units, map, given, cells)
 }
 
 // The map of the cells that have to be given, and whether none is below that of a row with one unit less of one item.

@@ -1,15 +1,21 @@
 -- Laws of a table's cells and of what is said of them. Assumes nothing.
 use mathlib.Core.Path.{_≡_, sym, _∙_}
-use mathlib.Core.Bool.{Bool, true, false}
+use mathlib.Core.Bool.{Bool, true, false, and-eq-true-iff}
 use mathlib.Core.List.{List, _++_}
-use Prim.Native.Nat.{ℕ, _-_}
+use Prim.Native.Nat.{ℕ, _-_, _/_}
 use native.Mathlib.Omega.{arith}
-use lib.Dec.{leb}
+use borrow.Author.Tests.{eqb-true}
+use lib.Dec.{leb, eqb}
 use lib.ListN.{length, drop, replicate, length-drop}
-use lib.Seq.{length-take-le}
+use lib.Seq.{length-take-le, take-length}
 use Rattle.area.specs.Entries.{entries, column}
+use Rattle.area.proofs.Laws.{entries-length}
 use Rattle.grid.specs.Rows.{rowsOf, rising}
+use Rattle.grid.specs.Map.{standing}
 use Rattle.grid.specs.Cells.{Sized, Fills}
+use Rattle.grid.proofs.RowLaws.{rows-pos}
+use Rattle.grid.proofs.LastLaws.{last-largest}
+use Rattle.grid.proofs.FillLaws.{all-filled}
 use Rattle.contract.specs.Res.{refused, ok, test}
 use Rattle.contract.specs.Contract.{headerOf}
 use Rattle.contract.specs.Field.{Head}
@@ -18,7 +24,8 @@ use Rattle.contract.specs.Table.{Layout, Grid, part, unitsOf, cellsOf, tableCon
 use Rattle.contract.specs.declared.Form.the-variants.{Table}
 use Rattle.contract.proofs.ParsedValid.TableValid.{cells-length}
 use Rattle.record.specs.View.Answer.{acceptance}
-use Rattle.record.specs.View.Table.{Items, Laid}
+use Rattle.record.specs.View.Table.{Items, Laid, LastLargest, Within, Told, Filled, gridOf, givenIn, givenRise, shown}
+use Rattle.record.specs.declared.table.Grid as code
 use Rattle.record.specs.declared.Reply.{Reply}
 use Rattle.record.proofs.TableLaws.{column-bytes}
 
@@ -36,6 +43,34 @@ unfolding cellsOf
 cells-read {s} {us} {before} {cells} {b} t g e l f =
     let c : cells ≡ cellsOf s t g = f .cells-are ∙ rw (e, l) in
     record { cells-are = c; rises-is = sym (f .rises-is ∙ rw (c, e, cells-length s t g)) }
+
+-- what the code says of a grid: every cell is given, and none falls
+given-all : (us gs : List ℕ) → givenRise us gs ≡ true → (length gs ≡ rowsOf us) × (rising us gs (rowsOf us) ≡ true)
+given-all us gs e =
+    let both = and-eq-true-iff (eqb (length gs) (rowsOf us)) (rising us gs (rowsOf us)) .0 e in
+    (eqb-true _ _ (both .0), both .1)
+
+pub given-last : (us gs : List ℕ) → givenRise us gs ≡ true → LastLargest gs
+given-last us gs e =
+    let all = given-all us gs e in
+    record { some = rw (all .0) (rows-pos us); last = rw (all .0) (last-largest us gs (all .1)) }
+
+-- then the given cells are the cells of the grid
+pub given-fills : {s us before : List ℕ} (g : code.Grid) → Within s (length before) (gridOf g) → Sized us before → Told s us g → g .rises ≡ true
+    → Filled s us (gridOf g) before true (shown s g before)
+given-fills {s} {us} {before} g w sized told e =
+    let gs : List ℕ = givenIn s (gridOf g) in
+    let map : List ℕ = part (g .map) (g .cells) s in
+    let all = given-all us gs (sym told ∙ e) in
+    let long : length (part (g .cells) (g .end) s) ≡ g .end - g .cells = length-take-le (g .end - g .cells) (drop (g .cells) s) (simp length-drop (omega (arith, w .cells-end, w .within))) in
+    let count : length gs ≡ (g .end - g .cells) / 4 = entries-length 4 (part (g .cells) (g .end) s) ∙ rw long in
+    let stand : standing map (length before) ≡ length before = omega (arith, w .counted, all .0, sized .long) in
+    let n : length before ≡ length gs = sized .long ∙ sym (all .0) in
+    rw e
+    (record {
+      cells-are = sym (all-filled us map gs (length before) stand (omega arith) ∙ rw (n, take-length gs));
+      rises-is = sym (rw (all .0) (all .1));
+    })
 
 -- as grid functions ask for them
 pub cells-sized : {s us cells : List ℕ} (t : Layout) → Laid s t → us ≡ unitsOf s t → length cells ≡ t .rows → Sized us cells

@@ -20,7 +20,7 @@ use Rattle.grid.specs.Map.{mapSize, bitsFrom, bitCount, standing}
 use Rattle.grid.proofs.RowLaws.{rows-pos}
 use Rattle.grid.proofs.MapLaws.{count-rows}
 use Rattle.contract.specs.Table.{unitsAt, part}
-use Rattle.record.specs.View.Table.{Items}
+use Rattle.record.specs.View.Table.{Items, Counted}
 use Rattle.record.proofs.Laws.{one-more}
 
 -- one units field more, one that is refused, and none left
@@ -92,6 +92,13 @@ pub counted : {s us : List ℕ} {i e n : ℕ} → Items s i e → us ≡ column 
     → n ≡ cond (leb (rowsOf (take (e - i) us)) 128) (rowsOf (take (e - i) us)) 0
     → n ≡ cond (leb (rowsOf (part i e s)) 128) (rowsOf (part i e s)) 0
 counted p q h = rw (units-read p q) at h
+
+-- and the items are as grid functions ask for them
+pub units-counted : {s us : List ℕ} {i e n : ℕ} → Items s i e → us ≡ column 1 s i 1 (e - i) ++ replicate (8 - (e - i)) 0
+    → RowCount (part i e s) n → Counted (take (e - i) us) n
+units-counted {s} {us} {i} {e} p q r =
+    let items : length (part i e s) ≤ e - i = omega (arith, length-take (e - i) (drop i s)) in
+    rw (units-read p q) (record { small = record { items = omega (arith, p .few); rows = omega (arith, r .rows, r .few) }; rows-are = r .rows })
 
 part-bytes : (s : List ℕ) (m n : ℕ) → Bytes s → Bytes (take n (drop m s))
 part-bytes s m n b k = go (decLt k n)

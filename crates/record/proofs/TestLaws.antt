@@ -1,12 +1,12 @@
 -- Laws of the writer's tests, item by item and amount by amount. Assumes nothing.
-use mathlib.Core.Path.{_≡_, refl, _∙_}
+use mathlib.Core.Path.{_≡_, refl, sym, _∙_}
 use mathlib.Core.Bool.{Bool, true, false, _&&_, and-false, and-assoc}
 use mathlib.Core.List.{List, [], _∷_}
-use Prim.Native.Nat.{ℕ, zero, suc, _+_, _*_, _^_, _≤_, _<_}
+use Prim.Native.Nat.{ℕ, zero, suc, _+_, _-_, _*_, _^_, _≤_, _<_}
 use native.Mathlib.Nat.{le-mul-of-pos-right, mul-comm, mul-le-mul-right}
 use native.Mathlib.Numerals.{add-one}
 use native.Mathlib.Omega.{arith}
-use borrow.Author.Tests.{lt-ltb, le-leb, lt-leb, leb-true}
+use borrow.Author.Tests.{lt-ltb, le-leb, lt-leb, leb-true, leb-false}
 use lib.Dec.{ltb, leb}
 use lib.ListN.{length, getD, drop, replicate, length-replicate, drop-of-length-le}
 use lib.Seq.{drop-cons}
@@ -64,6 +64,28 @@ module _ (us : List ℕ) (i : ℕ) (h : length us ≤ i) where
   pub within-end : allWithin (drop i us) ≡ true
   unfolding allWithin
   within-end = rw (drop-of-length-le us {i = i} h)
+
+within-each : (xs : List ℕ) → ((r : ℕ) → r < length xs → getD xs r 0 ≤ limit) → allWithin xs ≡ true
+unfolding allWithin
+within-each [] h = refl
+within-each (x ∷ xs) h = rw (le-leb x limit (h 0 (omega arith))) (within-each xs (λ r l. h (suc r) (omega arith)))
+
+within-not : (xs : List ℕ) (r : ℕ) → limit < getD xs r 0 → allWithin xs ≡ false
+unfolding allWithin
+within-not [] r h = absurd (omega arith)
+within-not (x ∷ xs) zero h = rw (lt-leb x limit h)
+within-not (x ∷ xs) (suc r) h = rw (within-not xs r h) (and-false (leb x limit))
+
+-- where no amount is above the last one, the test of the last one is the test of all
+pub last-within : (xs : List ℕ) → ((r : ℕ) → r < length xs → getD xs r 0 ≤ getD xs (length xs - 1) 0)
+    → leb (getD xs (length xs - 1) 0) limit ≡ allWithin xs
+last-within xs h = go (leb (getD xs (length xs - 1) 0) limit) refl
+  where
+    go : (b : Bool) → leb (getD xs (length xs - 1) 0) limit ≡ b → b ≡ allWithin xs
+    go true e =
+        let low : getD xs (length xs - 1) 0 ≤ limit = leb-true _ _ e in
+        sym (within-each xs (λ r l. omega (arith, h r l)))
+    go false e = sym (within-not xs (length xs - 1) (leb-false _ _ e))
 
 -- ---- the total
 

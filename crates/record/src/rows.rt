@@ -10,6 +10,7 @@ ghost use Rattle.grid.specs.Map.{bitCount};
 ghost use Rattle.contract.specs.Contract.{limit};
 ghost use Rattle.contract.specs.Table.{allWithin};
 ghost use Rattle.record.specs.View.Spaced.{Spaced};
+ghost use Rattle.record.specs.View.Table.{LastLargest};
 use super::field::LIMIT;
 use super::field::number;
 
@@ -64,6 +65,15 @@ fn still_within(within: bool, v: u32) -> bool
     if v as u64 <= LIMIT { within } else { false }
 }
 
+// Whether every cell is within the limit, where none is above the last one.
+pub(crate) fn last_within(cells: &[u8]) -> bool
+    requires { ⌜ LastLargest (entries 4 (now cells)) ⌝ }
+    ensures { λ r. ⌜ r ≡ allWithin (entries 4 (now (cells .entry))) ⌝ }
+{
+    let n = area::count_u32(cells);
+    area::known_u32(cells, n - 1) as u64 <= LIMIT
+}
+
 // Copies cells to the front of an area.
 pub(crate) fn copy(cells: &[u32], out: &mut [u32])
     requires { ⌜ length (now cells) ≤ length (now out) ⌝ }
@@ -72,6 +82,19 @@ pub(crate) fn copy(cells: &[u32], out: &mut [u32])
     let mut k = 0;
     while k < cells.len() {
         out[k] = cells[k];
+        k += 1;
+    }
+}
+
+// Copies cells out of the record to the front of an area.
+pub(crate) fn copy_given(given: &[u8], out: &mut [u32])
+    requires { ⌜ length (entries 4 (now given)) ≤ length (now out) ⌝ }
+    ensures { λ _. ⌜ now (out .exit) ≡ entries 4 (now (given .entry)) ++ drop (length (entries 4 (now (given .entry)))) (now (out .entry)) ⌝ }
+{
+    let n = area::count_u32(given);
+    let mut k: usize = 0;
+    while k < n {
+        out[k] = area::known_u32(given, k);
         k += 1;
     }
 }

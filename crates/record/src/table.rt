@@ -1,12 +1,16 @@
 // A table: the units of each item, and for costs and for values a row map with the cells that stand.
+ghost use mathlib.Core.Path.{_≡_};
+ghost use mathlib.Core.Bool.{true};
+ghost use mathlib.Core.List.{_++_};
 ghost use Prim.Native.Nat.{_≤_};
-ghost use lib.ListN.{length};
+ghost use lib.ListN.{length, drop};
+ghost use Rattle.area.specs.Entries.{entries};
 ghost use Rattle.grid.specs.Cells.{Sized};
-ghost use Rattle.contract.specs.Table.{gridsAt, tableAt, tableEnd, tableBody};
+ghost use Rattle.contract.specs.Table.{allWithin, gridsAt, tableAt, tableEnd, tableBody};
 ghost use Rattle.contract.specs.Parse.{sized};
 ghost use Rattle.record.specs.View.Head.{headOf, ReadHead};
 ghost use Rattle.contract.specs.declared.Form.the-variants.{Table};
-ghost use Rattle.record.specs.View.Table.{Items, gridOf, Within, Units, Grids, Tables, Laid, layoutOf, Filled, Working};
+ghost use Rattle.record.specs.View.Table.{Items, Counted, givenRise, LastLargest, gridOf, Within, Stands, Told, Units, Grids, Tables, Laid, layoutOf, TableTold, shown, Filled, Working};
 ghost use Rattle.record.specs.Promise.{Reads};
 use super::Outcome;
 use super::accept;
@@ -17,6 +21,8 @@ use super::head::Head;
 use super::refuse;
 use super::rows::all_within;
 use super::rows::copy;
+use super::rows::copy_given;
+use super::rows::last_within;
 use super::rows::ones;
 use super::rows::units_of;
 use contract::Refusal;
@@ -47,11 +53,13 @@ fn units_at(s: &[u8], n: u64, at: usize) -> Index
     Index::At(i)
 }
 
-// Where a row map begins, where its cells begin, and the index after them.
+// Where a row map begins, where its cells begin, and the index after them; and whether every cell is given and none is below that of a row
+// with one unit less of one item.
 pub(crate) struct Grid {
     pub map: usize,
     pub cells: usize,
     pub end: usize,
+    pub rises: bool,
 }
 
 pub(crate) enum GridReply {
@@ -59,10 +67,33 @@ pub(crate) enum GridReply {
     Got(Grid),
 }
 
+// Whether every cell is given and none is below that of a row with one unit less of one item.
+fn given_rise(units: &[u16], rows: usize, given: &[u8]) -> bool
+    requires { ⌜ Counted (now units) rows ⌝ }
+    ensures { λ r. ⌜ r ≡ givenRise (now (units .entry)) (entries 4 (now (given .entry))) ⌝ }
+{
+    if area::count_u32(given) != rows {
+        return false;
+    }
+    grid::all_rise(units, given)
+}
+
+// Whether every cell is within the limit. Where all are given and none falls, the last one tells: none is above it.
+fn cells_within(rises: bool, given: &[u8]) -> bool
+    requires { ⌜ (rises ≡ true → LastLargest (entries 4 (now given))) ⌝ }
+    ensures { λ r. ⌜ r ≡ allWithin (entries 4 (now (given .entry))) ⌝ }
+{
+    if rises {
+        last_within(given)
+    } else {
+        all_within(given)
+    }
+}
+
 // A row map and its cells.
-fn grid_at(s: &[u8], rows: usize, map: usize) -> GridReply
-    requires { ⌜ rows ≤ 128 ⌝ }
-    ensures { λ r. ⌜ Grids (now (s .entry)) rows map r ⌝ }
+fn grid_at(s: &[u8], units: &[u16], rows: usize, map: usize) -> GridReply
+    requires { ⌜ Counted (now units) rows ⌝ }
+    ensures { λ r. ⌜ Grids (now (s .entry)) (now (units .entry)) rows map r ⌝ }
 {
     let b = (rows + 7) / 8;
     if s.len() < b {
@@ -80,8 +111,14 @@ fn grid_at(s: &[u8], rows: usize, map: usize) -> GridReply
         return GridReply::Refused(Refusal::Truncated);
     }
     let end = cells + 4 * n;
-    if all_within(&s[cells..end]) {
-        GridReply::Got(Grid { map, cells, end })
+    let rises = given_rise(units, rows, &s[cells..end]);
+    if cells_within(rises, &s[cells..end]) {
+        GridReply::Got(Grid {
+            map,
+            cells,
+            end,
+            rises,
+        })
     } else {
         GridReply::Refused(Refusal::Limit)
     }
@@ -112,9 +149,9 @@ fn grids_at(s: &[u8], first: usize, after: usize) -> LayoutReply
     if rows == 0 {
         return LayoutReply::Refused(Refusal::Range);
     }
-    match grid_at(s, rows, after) {
+    match grid_at(s, &units[..n], rows, after) {
         GridReply::Refused(e) => LayoutReply::Refused(e),
-        GridReply::Got(costs) => match grid_at(s, rows, costs.end) {
+        GridReply::Got(costs) => match grid_at(s, &units[..n], rows, costs.end) {
             GridReply::Refused(e) => LayoutReply::Refused(e),
             GridReply::Got(values) => LayoutReply::Got(Layout {
                 units: first,
@@ -140,15 +177,31 @@ fn table_at(s: &[u8], at: usize) -> LayoutReply
     }
 }
 
-// Fills the cells of a grid, and says whether none falls.
+// Fills the cells of a grid, and says whether none falls. Where all are given and none does, they stay in the record.
 fn fill_cells(s: &[u8], units: &[u16], g: Grid, cells: &mut [u32]) -> bool
-    requires { ⌜ Within (now s) (length (now cells)) (gridOf g) × Sized (now units) (now cells) ⌝ }
-    ensures { λ r. ⌜ Filled (now (s .entry)) (now (units .entry)) (gridOf g) (now (cells .entry)) r (now (cells .exit)) ⌝ }
+    requires { ⌜ Within (now s) (length (now cells)) (gridOf g) × Sized (now units) (now cells) × Told (now s) (now units) g ⌝ }
+    ensures { λ r. ⌜ Filled (now (s .entry)) (now (units .entry)) (gridOf g) (now (cells .entry)) r (shown (now (s .entry)) g (now (cells .exit))) ⌝ }
 {
+    if g.rises {
+        return true;
+    }
     let m = g.map;
     let i = g.cells;
     let e = g.end;
     grid::fill(units, &s[m..i], &s[i..e], cells)
+}
+
+// Stores the cells of a grid: those of the record where all are given and none falls, else as they were filled.
+fn store_cells(s: &[u8], g: Grid, cells: &[u32], out: &mut [u32])
+    requires { ⌜ Stands (now s) (gridOf g) × (length (shown (now s) g (now cells)) ≤ length (now out)) ⌝ }
+    ensures { λ _. ⌜ now (out .exit) ≡ shown (now (s .entry)) g (now (cells .entry)) ++ drop (length (shown (now (s .entry)) g (now (cells .entry)))) (now (out .entry)) ⌝ }
+{
+    if g.rises {
+        let i = g.cells;
+        let e = g.end;
+        return copy_given(&s[i..e], out);
+    }
+    copy(cells, out)
 }
 
 // Fills a table's blanks into two work areas, tests that no cell falls, and stores the cells.
@@ -161,7 +214,7 @@ fn read_cells(
     costs: &mut [u32],
     values: &mut [u32],
 ) -> Outcome
-    requires { ⌜ Working (now s) (headOf h) (layoutOf t) (now c) (now v) ⌝ }
+    requires { ⌜ Working (now s) (headOf h) t (now c) (now v) ⌝ }
     ensures { λ r. ⌜ Reads (sized (tableEnd (now (s .entry)) (headOf h) (layoutOf t)) (length (now (costs .entry))) (length (now (values .entry)))) (now (costs .entry)) (now (values .entry)) r (now (costs .exit)) (now (values .exit)) ⌝ }
 {
     let k = t.after - t.units;
@@ -180,14 +233,14 @@ fn read_cells(
     if values.len() < t.rows {
         return refuse(Refusal::Short);
     }
-    copy(c, costs);
-    copy(v, values);
+    store_cells(s, t.costs, c, costs);
+    store_cells(s, t.values, v, values);
     accept(h, k, units)
 }
 
 // Lends the work areas, which a refusal leaves no trace of.
 fn read_layout(s: &[u8], h: Head, t: Layout, costs: &mut [u32], values: &mut [u32]) -> Outcome
-    requires { ⌜ ReadHead Table (headOf h) × Laid (now s) (layoutOf t) ⌝ }
+    requires { ⌜ ReadHead Table (headOf h) × Laid (now s) (layoutOf t) × TableTold (now s) t ⌝ }
     ensures { λ r. ⌜ Reads (sized (tableEnd (now (s .entry)) (headOf h) (layoutOf t)) (length (now (costs .entry))) (length (now (values .entry)))) (now (costs .entry)) (now (values .entry)) r (now (costs .exit)) (now (values .exit)) ⌝ }
 {
     let n = t.rows;

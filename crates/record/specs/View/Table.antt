@@ -1,11 +1,13 @@
 -- What the code's table stands for.
 use mathlib.Core.Path.{_≡_}
-use mathlib.Core.Bool.{Bool}
+use mathlib.Core.Bool.{Bool, cond, _&&_}
 use mathlib.Core.List.{List}
-use Prim.Native.Nat.{ℕ, _+_, _-_, _*_, _≤_}
-use lib.ListN.{length}
+use Prim.Native.Nat.{ℕ, _+_, _-_, _*_, _≤_, _<_}
+use lib.Dec.{eqb}
+use lib.ListN.{length, getD}
 use Rattle.area.specs.Entries.{entries}
-use Rattle.grid.specs.Rows.{rowsOf}
+use Rattle.grid.specs.Rows.{rowsOf, rising}
+use Rattle.grid.specs.Units.{Small}
 use Rattle.grid.specs.Map.{standing}
 use Rattle.grid.specs.Cells.{Fills}
 use Rattle.contract.specs.Res.{Res, refused, ok}
@@ -45,6 +47,23 @@ abbrev pub viewGrid : GridReply → Res table.Grid
 viewGrid (GridReply.Refused e) = refused (numberOf e)
 viewGrid (GridReply.Got g) = ok (gridOf g)
 
+-- these items have so many rows, at most 128
+pub record Counted (us : List ℕ) (rows : ℕ) : Type 0 where
+  pub small : Small us
+  pub rows-are : rows ≡ rowsOf us
+
+-- every cell is given, and none is below that of a row with one unit less of one item
+abbrev pub givenRise : List ℕ → List ℕ → Bool
+givenRise us gs = eqb (length gs) (rowsOf us) && rising us gs (rowsOf us)
+
+-- the cells that are given
+abbrev pub givenIn : List ℕ → table.Grid → List ℕ
+givenIn s g = entries 4 (part (g .cells) (g .end) s)
+
+-- what the code says of a grid beside where it lies
+abbrev pub Told : List ℕ → List ℕ → Grid → Type 0
+Told s us g = g .rises ≡ givenRise us (givenIn s (gridOf g))
+
 -- a map of the rows and its cells, as many as rows stand, lie one after the other within the record
 pub record Within (s : List ℕ) (rows : ℕ) (g : table.Grid) : Type 0 where
   pub map-end : g .map ≤ g .cells
@@ -57,10 +76,16 @@ abbrev pub WithinIn : List ℕ → ℕ → Res table.Grid → Type 0
 WithinIn s rows (refused n) = Unit {0}
 WithinIn s rows (ok g) = Within s rows g
 
+-- what is said of a grid that was found
+abbrev pub ToldIn : List ℕ → List ℕ → GridReply → Type 0
+ToldIn s us (GridReply.Refused e) = Unit {0}
+ToldIn s us (GridReply.Got g) = Told s us g
+
 -- what reading a grid gives
-pub record Grids (s : List ℕ) (rows m : ℕ) (r : GridReply) : Type 0 where
+pub record Grids (s us : List ℕ) (rows m : ℕ) (r : GridReply) : Type 0 where
   pub meets : viewGrid r ≡ gridAt s rows m
   pub within : WithinIn s rows (viewGrid r)
+  pub told : ToldIn s us r
 
 -- the layout that the code's struct holds
 abbrev pub layoutOf : Layout → table.Layout
@@ -91,18 +116,43 @@ abbrev pub LaidIn : List ℕ → Res table.Layout → Type 0
 LaidIn s (refused n) = Unit {0}
 LaidIn s (ok t) = Laid s t
 
+-- what is said of a table's grids
+pub record TableTold (s : List ℕ) (t : Layout) : Type 0 where
+  pub costs-told : Told s (unitsOf s (layoutOf t)) (t .costs)
+  pub values-told : Told s (unitsOf s (layoutOf t)) (t .values)
+
+abbrev pub TableToldIn : List ℕ → LayoutReply → Type 0
+TableToldIn s (LayoutReply.Refused e) = Unit {0}
+TableToldIn s (LayoutReply.Got t) = TableTold s t
+
 -- what finding a table's parts gives
 pub record Tables (s : List ℕ) (answer : Res table.Layout) (r : LayoutReply) : Type 0 where
   pub meets : viewLayout r ≡ answer
   pub laid : LaidIn s (viewLayout r)
+  pub told : TableToldIn s r
+
+-- the cells of a grid: the given ones where the code says that all are given and none falls, else those that were filled
+abbrev pub shown : List ℕ → Grid → List ℕ → List ℕ
+shown s g filled = cond (g .rises) (givenIn s (gridOf g)) filled
+
+-- the cells of a grid stand within the record
+pub record Stands (s : List ℕ) (g : table.Grid) : Type 0 where
+  pub cells-end : g .cells ≤ g .end
+  pub within : g .end ≤ length s
 
 -- the cells of a grid, blanks filled
 abbrev pub Filled : List ℕ → List ℕ → table.Grid → List ℕ → Bool → List ℕ → Type 0
-Filled s us g before rises after = Fills us (part (g .map) (g .cells) s) (entries 4 (part (g .cells) (g .end) s)) before rises after
+Filled s us g before rises after = Fills us (part (g .map) (g .cells) s) (givenIn s g) before rises after
 
 -- a table's head and layout, and two work areas with a cell for each row
-pub record Working (s : List ℕ) (h : Head) (t : table.Layout) (c v : List ℕ) : Type 0 where
+pub record Working (s : List ℕ) (h : Head) (t : Layout) (c v : List ℕ) : Type 0 where
   pub head : ReadHead Table h
-  pub laid : Laid s t
+  pub laid : Laid s (layoutOf t)
+  pub told : TableTold s t
   pub costs-long : length c ≡ t .rows
   pub values-long : length v ≡ t .rows
+
+-- there is a cell, and none is above the last one
+pub record LastLargest (xs : List ℕ) : Type 0 where
+  pub some : 0 < length xs
+  pub last : (r : ℕ) → r < length xs → getD xs r 0 ≤ getD xs (length xs - 1) 0

@@ -7,6 +7,7 @@ use lib.ListN.{length}
 use Rattle.grid.specs.Map.{mapSize, bitCount}
 use Rattle.contract.specs.Table.{gridAt, part}
 use Rattle.record.proofs.TableLaws.{map-counted}
+use Rattle.record.proofs.CellLaws.{given-last}
 use borrow.Author.Needs.{needs}
 use Rattle.record.proofs.table.grid_at.Statement.{statement}
 use Rattle.record.proofs.table.grid_at.Tie as tie
@@ -16,14 +17,18 @@ add-b c = search needs
 
 returns : tie.Need-returns
 unfolding gridAt
-returns c = record { meets = simp (lt-leb (c .before .before .args .map + mapSize (c .before .before .args .rows)) (length (now (c .before .before .args .s))) (omega arith)); within = tt }
+returns c =
+    let a = c .before .before .before .args in
+    record { meets = simp (lt-leb (a .map + mapSize (a .rows)) (length (now (a .s))) (omega arith)); within = tt; told = tt }
 
 sub-if2 : tie.Need-sub-if2
 sub-if2 c = search needs
 
 returns-2 : tie.Need-returns-2
 unfolding gridAt
-returns-2 c = record { meets = simp (lt-leb (c .before .before .before .args .map + mapSize (c .before .before .before .args .rows)) (length (now (c .before .before .before .args .s))) (omega arith)); within = tt }
+returns-2 c =
+    let a = c .before .before .before .before .args in
+    record { meets = simp (lt-leb (a .map + mapSize (a .rows)) (length (now (a .s))) (omega arith)); within = tt; told = tt }
 
 add-cells : tie.Need-add-cells
 add-cells c = search needs
@@ -43,9 +48,11 @@ bits-from-requires c κs = search needs
 returns-3 : tie.Need-returns-3
 unfolding gridAt
 returns-3 c =
+    let a = c .before .before .before .before .before .before .before .args in
     record {
-      meets = simp (le-leb (c .before .before .before .before .before .before .args .map + mapSize (c .before .before .before .before .before .before .args .rows)) (length (now (c .before .before .before .before .before .before .args .s))) (omega arith), ne-eqb _ _ (λ q. c .if3 .taken (c .before .bits-from .ensures ∙ q)));
+      meets = simp (le-leb (a .map + mapSize (a .rows)) (length (now (a .s))) (omega arith), ne-eqb _ _ (λ q. c .if3 .taken (c .before .bits-from .ensures ∙ q)));
       within = tt;
+      told = tt;
     }
 
 sub-ones : tie.Need-sub-ones
@@ -64,18 +71,20 @@ sub-if4 : tie.Need-sub-if4
 sub-if4 c = search needs
 
 mul-if4 : tie.Need-mul-if4
-mul-if4 c = omega (arith, c .ones .ensures .1)
+mul-if4 c = search needs
 
 returns-4 : tie.Need-returns-4
 unfolding gridAt
 returns-4 c =
-    let i = c .before .before .before .before .before .before .before .before .before .args .map + mapSize (c .before .before .before .before .before .before .before .before .before .args .rows) in
-    let s = now (c .before .before .before .before .before .before .before .before .before .args .s) in
+    let a = c .before .before .before .before .before .before .before .before .before .before .args in
+    let i = a .map + mapSize (a .rows) in
+    let s = now (a .s) in
     let h : length s < i + 4 * c .before .ones .result = omega arith in
-    let over : length s < i + 4 * bitCount (part (c .before .before .before .before .before .before .before .before .before .args .map) i s) = rw (c .before .ones .ensures .0) at h in
+    let over : length s < i + 4 * bitCount (part (a .map) i s) = rw (c .before .ones .ensures .0) at h in
     record {
       meets = simp (le-leb i (length s) (omega arith), eq-eqb _ _ (sym (c .before .before .before .before .bits-from .ensures) ∙ c .before .before .before .if3 .left), lt-leb _ _ over);
       within = tt;
+      told = tt;
     }
 
 mul-end : tie.Need-mul-end
@@ -84,43 +93,60 @@ mul-end c = search needs
 add-end : tie.Need-add-end
 add-end c = search needs
 
-sub-all-within : tie.Need-sub-all-within
-sub-all-within c = search needs
+sub-given-rise : tie.Need-sub-given-rise
+sub-given-rise c = search needs
 
-part-all-within-start : tie.Need-part-all-within-start
-part-all-within-start c = search needs
+part-given-rise-start : tie.Need-part-given-rise-start
+part-given-rise-start c = search needs
 
-part-all-within-end : tie.Need-part-all-within-end
-part-all-within-end c = search needs
+part-given-rise-end : tie.Need-part-given-rise-end
+part-given-rise-end c = search needs
 
-all-within-requires : tie.Need-all-within-requires
-all-within-requires c κs = search needs
+given-rise-requires : tie.Need-given-rise-requires
+given-rise-requires c κs = search needs
+
+sub-cells-within : tie.Need-sub-cells-within
+sub-cells-within c = search needs
+
+part-cells-within-start : tie.Need-part-cells-within-start
+part-cells-within-start c = search needs
+
+part-cells-within-end : tie.Need-part-cells-within-end
+part-cells-within-end c = search needs
+
+cells-within-requires : tie.Need-cells-within-requires
+cells-within-requires c κs = λ q. given-last (now (c .before .before .before .before .before .before .before .before .before .before .before .before .before .args .units)) _ (sym (c .before .given-rise .ensures) ∙ q)
 
 returns-5 : tie.Need-returns-5
 unfolding gridAt
 returns-5 c =
-    let i = c .before .before .before .before .before .before .before .before .before .before .before .before .args .map + mapSize (c .before .before .before .before .before .before .before .before .before .before .before .before .args .rows) in
-    let s = now (c .before .before .before .before .before .before .before .before .before .before .before .before .args .s) in
-    let e = c .before .before .before .before .ones .ensures .0 in
-    let h : i + 4 * c .before .before .before .before .ones .result ≤ length s = omega arith in
-    let room : i + 4 * bitCount (part (c .before .before .before .before .before .before .before .before .before .before .before .before .args .map) i s) ≤ length s = rw e at h in
-    let rows = map-counted s (c .before .before .before .before .before .before .before .before .before .before .before .before .args .map) (c .before .before .before .before .before .before .before .before .before .before .before .before .args .rows) (λ k. c .before .before .before .before .before .before .before .before .before .before .before .shared-slice-known .given k .fits) (omega arith) (sym (c .before .before .before .before .before .before .before .bits-from .ensures) ∙ c .before .before .before .before .before .before .if3 .left) in
+    let a = c .before .before .before .before .before .before .before .before .before .before .before .before .before .before .before .args in
+    let i = a .map + mapSize (a .rows) in
+    let s = now (a .s) in
+    let e = c .before .before .before .before .before .before .ones .ensures .0 in
+    let clear = sym (c .before .before .before .before .before .before .before .before .before .bits-from .ensures) ∙ c .before .before .before .before .before .before .before .before .if3 .left in
+    let h : i + 4 * c .before .before .before .before .before .before .ones .result ≤ length s = omega arith in
+    let room : i + 4 * bitCount (part (a .map) i s) ≤ length s = rw e at h in
+    let rows = map-counted s (a .map) (a .rows) (λ k. c .before .before .before .before .before .before .before .before .before .before .before .before .before .before .shared-slice-known .given k .fits) (omega arith) clear in
     record {
-      meets = rw e (simp (le-leb i (length s) (omega arith), eq-eqb _ _ (sym (c .before .before .before .before .before .before .before .bits-from .ensures) ∙ c .before .before .before .before .before .before .if3 .left), le-leb _ _ room, sym (rw e at (c .before .all-within .ensures)) ∙ c .if5 .taken));
+      meets = rw e (simp (le-leb i (length s) (omega arith), eq-eqb _ _ clear, le-leb _ _ room, sym (rw e at (c .before .cells-within .ensures)) ∙ c .if5 .taken));
       within = record { map-end = omega arith; cells-end = omega arith; within = omega arith; counted = rw (← rows, ← e) (omega arith) };
+      told = c .before .before .before .given-rise .ensures;
     }
 
 returns-6 : tie.Need-returns-6
 unfolding gridAt
 returns-6 c =
-    let i = c .before .before .before .before .before .before .before .before .before .before .before .before .args .map + mapSize (c .before .before .before .before .before .before .before .before .before .before .before .before .args .rows) in
-    let s = now (c .before .before .before .before .before .before .before .before .before .before .before .before .args .s) in
-    let e = c .before .before .before .before .ones .ensures .0 in
-    let h : i + 4 * c .before .before .before .before .ones .result ≤ length s = omega arith in
-    let room : i + 4 * bitCount (part (c .before .before .before .before .before .before .before .before .before .before .before .before .args .map) i s) ≤ length s = rw e at h in
+    let a = c .before .before .before .before .before .before .before .before .before .before .before .before .before .before .before .args in
+    let i = a .map + mapSize (a .rows) in
+    let s = now (a .s) in
+    let e = c .before .before .before .before .before .before .ones .ensures .0 in
+    let h : i + 4 * c .before .before .before .before .before .before .ones .result ≤ length s = omega arith in
+    let room : i + 4 * bitCount (part (a .map) i s) ≤ length s = rw e at h in
     record {
-      meets = simp (le-leb i (length s) (omega arith), eq-eqb _ _ (sym (c .before .before .before .before .before .before .before .bits-from .ensures) ∙ c .before .before .before .before .before .before .if3 .left), le-leb _ _ room, sym (rw e at (c .before .all-within .ensures)) ∙ c .if5 .left);
+      meets = simp (le-leb i (length s) (omega arith), eq-eqb _ _ (sym (c .before .before .before .before .before .before .before .before .before .bits-from .ensures) ∙ c .before .before .before .before .before .before .before .before .if3 .left), le-leb _ _ room, sym (rw e at (c .before .cells-within .ensures)) ∙ c .if5 .left);
       within = tt;
+      told = tt;
     }
 
 pub grid-at-spec : {M : Type 1} → statement M
@@ -146,9 +172,13 @@ grid-at-spec =
     returns-4
     mul-end
     add-end
-    sub-all-within
-    part-all-within-start
-    part-all-within-end
-    all-within-requires
+    sub-given-rise
+    part-given-rise-start
+    part-given-rise-end
+    given-rise-requires
+    sub-cells-within
+    part-cells-within-start
+    part-cells-within-end
+    cells-within-requires
     returns-5
     returns-6)

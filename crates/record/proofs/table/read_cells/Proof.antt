@@ -6,7 +6,7 @@ use Rattle.contract.specs.Table.{tableContract}
 use Rattle.contract.proofs.ParsedValid.TableValid.{cells-length}
 use Rattle.contract.specs.declared.Refusal.the-variants.{Falling, Short}
 use Rattle.record.specs.View.Head.{headOf}
-use Rattle.record.specs.View.Table.{gridOf, layoutOf}
+use Rattle.record.specs.View.Table.{gridOf, layoutOf, shown}
 use Rattle.record.proofs.AnswerLaws.{refuses, accepts, sized-stop}
 use Rattle.record.proofs.TableLaws.{units-front, units-read}
 use Rattle.record.proofs.CellLaws.{CellsRead, cells-sized, cells-read, said-costs-fall, said-values-fall, said-cells, table-header}
@@ -27,13 +27,16 @@ slice-aggregate-fill-cells : tie.Need-slice-aggregate-fill-cells
 slice-aggregate-fill-cells c = units-front _ _ _ _ (c .before .before .before .units-of .ensures)
 
 fill-cells-requires : tie.Need-fill-cells-requires
-fill-cells-requires c κs = (rw (c .before .before .before .before .before .before .before .before .before .before .before .pre .costs-long) (c .before .before .before .before .before .before .before .before .before .before .before .pre .laid .costs-in), cells-sized (layoutOf (c .before .before .before .before .before .before .before .before .before .before .before .args .t)) (c .before .before .before .before .before .before .before .before .before .before .before .pre .laid) (units-read (c .before .before .before .before .before .before .before .before .before .before .before .pre .laid .items) (c .before .before .before .before .units-of .ensures)) (c .before .before .before .before .before .before .before .before .before .before .before .pre .costs-long))
+fill-cells-requires c κs =
+    let pre = c .before .before .before .before .before .before .before .before .before .before .before .pre in
+    let us = units-read (pre .laid .items) (c .before .before .before .before .units-of .ensures) in
+    (rw (pre .costs-long) (pre .laid .costs-in), cells-sized (layoutOf (c .before .before .before .before .before .before .before .before .before .before .before .args .t)) (pre .laid) us (pre .costs-long), rw us (pre .told .costs-told))
 
 -- what the costs, and then the values, were filled with
-costs-read : (c : tie.After-fill-cells) → CellsRead (now (c .before .before .before .before .before .before .before .before .before .before .before .before .args .s)) (layoutOf (c .before .before .before .before .before .before .before .before .before .before .before .before .args .t)) (gridOf (c .before .before .before .before .before .before .before .before .before .before .before .before .args .t .costs)) (c .fill-cells .result) (c .fill-cells .last .1 .1 .1 .0)
+costs-read : (c : tie.After-fill-cells) → CellsRead (now (c .before .before .before .before .before .before .before .before .before .before .before .before .args .s)) (layoutOf (c .before .before .before .before .before .before .before .before .before .before .before .before .args .t)) (gridOf (c .before .before .before .before .before .before .before .before .before .before .before .before .args .t .costs)) (c .fill-cells .result) (shown (now (c .before .before .before .before .before .before .before .before .before .before .before .before .args .s)) (c .before .before .before .before .before .before .before .before .before .before .before .before .args .t .costs) (c .fill-cells .last .1 .1 .1 .0))
 costs-read c = cells-read _ _ (units-read (c .before .before .before .before .before .before .before .before .before .before .before .before .pre .laid .items) (c .before .before .before .before .before .units-of .ensures)) (c .before .before .before .before .before .before .before .before .before .before .before .before .pre .costs-long) (c .fill-cells .ensures)
 
-values-read : (c : tie.After-fill-cells2) → CellsRead (now (c .before .before .before .before .before .before .before .before .before .before .before .before .before .before .before .before .before .before .args .s)) (layoutOf (c .before .before .before .before .before .before .before .before .before .before .before .before .before .before .before .before .before .before .args .t)) (gridOf (c .before .before .before .before .before .before .before .before .before .before .before .before .before .before .before .before .before .before .args .t .values)) (c .fill-cells2 .result) (c .fill-cells2 .last .1 .1 .1 .0)
+values-read : (c : tie.After-fill-cells2) → CellsRead (now (c .before .before .before .before .before .before .before .before .before .before .before .before .before .before .before .before .before .before .args .s)) (layoutOf (c .before .before .before .before .before .before .before .before .before .before .before .before .before .before .before .before .before .before .args .t)) (gridOf (c .before .before .before .before .before .before .before .before .before .before .before .before .before .before .before .before .before .before .args .t .values)) (c .fill-cells2 .result) (shown (now (c .before .before .before .before .before .before .before .before .before .before .before .before .before .before .before .before .before .before .args .s)) (c .before .before .before .before .before .before .before .before .before .before .before .before .before .before .before .before .before .before .args .t .values) (c .fill-cells2 .last .1 .1 .1 .0))
 values-read c = cells-read _ _ (units-read (c .before .before .before .before .before .before .before .before .before .before .before .before .before .before .before .before .before .before .pre .laid .items) (c .before .before .before .before .before .before .before .before .before .before .before .units-of .ensures)) (c .before .before .before .before .before .before .before .before .before .before .before .before .before .before .before .before .before .before .pre .values-long) (c .fill-cells2 .ensures)
 
 refuse-requires : tie.Need-refuse-requires
@@ -54,7 +57,10 @@ slice-aggregate-fill-cells-2 : tie.Need-slice-aggregate-fill-cells-2
 slice-aggregate-fill-cells-2 c = units-front _ _ _ _ (c .before .before .before .before .before .before .before .before .before .units-of .ensures)
 
 fill-cells-requires-2 : tie.Need-fill-cells-requires-2
-fill-cells-requires-2 c κs = (rw (c .before .before .before .before .before .before .before .before .before .before .before .before .before .before .before .before .before .pre .values-long) (c .before .before .before .before .before .before .before .before .before .before .before .before .before .before .before .before .before .pre .laid .values-in), cells-sized (layoutOf (c .before .before .before .before .before .before .before .before .before .before .before .before .before .before .before .before .before .args .t)) (c .before .before .before .before .before .before .before .before .before .before .before .before .before .before .before .before .before .pre .laid) (units-read (c .before .before .before .before .before .before .before .before .before .before .before .before .before .before .before .before .before .pre .laid .items) (c .before .before .before .before .before .before .before .before .before .before .units-of .ensures)) (c .before .before .before .before .before .before .before .before .before .before .before .before .before .before .before .before .before .pre .values-long))
+fill-cells-requires-2 c κs =
+    let pre = c .before .before .before .before .before .before .before .before .before .before .before .before .before .before .before .before .before .pre in
+    let us = units-read (pre .laid .items) (c .before .before .before .before .before .before .before .before .before .before .units-of .ensures) in
+    (rw (pre .values-long) (pre .laid .values-in), cells-sized (layoutOf (c .before .before .before .before .before .before .before .before .before .before .before .before .before .before .before .before .before .args .t)) (pre .laid) us (pre .values-long), rw us (pre .told .values-told))
 
 refuse-requires-2 : tie.Need-refuse-requires-2
 refuse-requires-2 c κs = search needs
@@ -101,17 +107,19 @@ returns-4 c =
     let vr = values-read (c .before .before .before .before .before .before .before .before) in
     refuses _ _ Short (said-cells _ _ _ _ _ (cr .rises-is ∙ not-false _ (c .before .before .before .before .before .before .before .before .before .before .before .if1 .left)) (vr .rises-is ∙ not-false _ (c .before .before .before .before .before .if2 .left)) ∙ simp (le-leb _ _ (c .before .before .before .if3 .left), lt-leb _ _ (c .before .if4 .taken))) (c .refuse4 .ensures)
 
-copy-requires : tie.Need-copy-requires
-copy-requires c κs =
+store-cells-requires : tie.Need-store-cells-requires
+store-cells-requires c κs =
     let t = layoutOf (c .before .before .before .before .before .before .before .before .before .before .before .before .before .before .before .before .before .before .before .before .before .before .before .before .before .before .before .args .t) in
-    let cr = costs-read (c .before .before .before .before .before .before .before .before .before .before .before .before .before .before .before) in
-    rw (cr .cells-are, cells-length (now (c .before .before .before .before .before .before .before .before .before .before .before .before .before .before .before .before .before .before .before .before .before .before .before .before .before .before .before .args .s)) t (t .costs)) (c .before .before .before .before .if3 .left)
+    let grid = c .before .before .before .before .before .before .before .before .before .before .before .before .before .before .before .before .before .before .before .before .before .before .before .before .before .before .before .pre .laid .costs-in in
+    let read = costs-read (c .before .before .before .before .before .before .before .before .before .before .before .before .before .before .before) in
+    (record { cells-end = grid .cells-end; within = grid .within }, rw (read .cells-are, cells-length (now (c .before .before .before .before .before .before .before .before .before .before .before .before .before .before .before .before .before .before .before .before .before .before .before .before .before .before .before .args .s)) t (t .costs)) (c .before .before .before .before .if3 .left))
 
-copy-requires-2 : tie.Need-copy-requires-2
-copy-requires-2 c κs =
+store-cells-requires-2 : tie.Need-store-cells-requires-2
+store-cells-requires-2 c κs =
     let t = layoutOf (c .before .before .before .before .before .before .before .before .before .before .before .before .before .before .before .before .before .before .before .before .before .before .before .before .before .before .before .before .before .before .before .before .args .t) in
-    let vr = values-read (c .before .before .before .before .before .before .before .before .before .before .before .before .before .before) in
-    rw (vr .cells-are, cells-length (now (c .before .before .before .before .before .before .before .before .before .before .before .before .before .before .before .before .before .before .before .before .before .before .before .before .before .before .before .before .before .before .before .before .args .s)) t (t .values)) (c .before .before .before .before .before .before .before .if4 .left)
+    let grid = c .before .before .before .before .before .before .before .before .before .before .before .before .before .before .before .before .before .before .before .before .before .before .before .before .before .before .before .before .before .before .before .before .pre .laid .values-in in
+    let read = values-read (c .before .before .before .before .before .before .before .before .before .before .before .before .before .before) in
+    (record { cells-end = grid .cells-end; within = grid .within }, rw (read .cells-are, cells-length (now (c .before .before .before .before .before .before .before .before .before .before .before .before .before .before .before .before .before .before .before .before .before .before .before .before .before .before .before .before .before .before .before .before .args .s)) t (t .values)) (c .before .before .before .before .before .before .before .if4 .left))
 
 accept-requires : tie.Need-accept-requires
 accept-requires c κs = (c .before .before .before .before .before .before .before .before .before .before .before .before .before .before .before .before .before .before .before .before .before .before .before .before .before .before .before .before .before .before .before .before .before .before .before .pre .head .small, omega (arith, c .before .before .before .before .before .before .before .before .before .before .before .before .before .before .before .before .before .before .before .before .before .before .before .before .before .before .before .before .before .before .before .before .before .before .before .pre .laid .items .few))
@@ -139,8 +147,8 @@ returns-5 c =
     accepts (tableContract s h t) _ _
     (said-cells _ _ _ _ _ (cr .rises-is ∙ not-false _ (c .before .before .before .before .before .before .before .before .before .before .before .before .before .before .before .before .before .before .before .before .before .if1 .left)) (vr .rises-is ∙ not-false _ (c .before .before .before .before .before .before .before .before .before .before .before .before .before .before .before .if2 .left)) ∙ simp (le-leb _ _ (c .before .before .before .before .before .before .before .before .before .before .before .before .before .if3 .left), le-leb _ _ (c .before .before .before .before .before .before .before .before .before .before .before .if4 .left)))
     (c .accept .ensures ∙ table-header h t (c .before .before .before .before .before .before .before .before .before .before .before .before .before .before .before .before .before .before .before .before .before .before .before .before .before .before .before .before .before .before .before .before .before .before .before .before .pre .laid .items) (c .before .before .before .before .before .before .before .before .before .before .before .before .before .before .before .before .before .before .before .before .before .before .before .before .before .before .before .before .before .before .before .before .before .before .before .before .pre .head .form-is) (c .before .before .before .before .before .before .before .before .before .before .before .before .before .before .before .before .before .before .before .before .before .before .before .before .before .before .before .before .before .units-of .ensures))
-    (rw (cr .cells-are) at (c .before .before .before .before .before .before .before .before .copy .ensures))
-    (rw (vr .cells-are) at (c .before .before .before .copy2 .ensures))
+    (rw (cr .cells-are) at (c .before .before .before .before .before .before .before .before .store-cells .ensures))
+    (rw (vr .cells-are) at (c .before .before .before .store-cells2 .ensures))
 
 pub read-cells-spec : {M : Type 1} → statement M
 read-cells-spec =
@@ -169,8 +177,8 @@ read-cells-spec =
     same-length-6
     same-length-7
     returns-4
-    copy-requires
-    copy-requires-2
+    store-cells-requires
+    store-cells-requires-2
     accept-requires
     same-length-8
     same-length-9
