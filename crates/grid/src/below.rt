@@ -48,7 +48,7 @@ fn item_below(b: u32, cells: &[u32], r: usize, k: usize, unit: u32) -> u32
 }
 
 // The largest cell among the rows with one unit less of one item, by the units in row r's word. The last item's is the cell of the row
-// before. Written out item by item: a processor predicts a test of each item better than one test that a loop repeats.
+// before. Written out item by item, which takes less time than a loop.
 pub(crate) fn largest_below(
     strides: [usize; 4],
     cells: &[u32],

@@ -19,8 +19,8 @@ fn both(a: bool, b: bool) -> bool
     if a { b } else { false }
 }
 
-// Whether no cell of the rows of the last item alone is below that of the row before, up to row `to`. All are compared, here and below: a
-// loop with one way out is the faster.
+// Whether no cell before row `to` is below that of the row before it, as it must be among the rows of the last item alone. All are compared,
+// here and in rows_rise: a loop with one way out is the faster.
 fn run_rises(given: &[u8], to: usize) -> bool
     requires { ⌜ to ≤ length (entries 4 (now given)) ⌝ }
     ensures { λ b. ⌜ b ≡ allRows (notBelow 1 (entries 4 (now (given .entry)))) 1 (to - 1) ⌝ }
@@ -77,7 +77,8 @@ fn rows_rise(
     all
 }
 
-// The rows of two items and more, item by item from the last: those of n items, then those that have a unit of the item before.
+// Two items and more: the rows of the last item alone, then those that have a unit of the item before it, then of the one before that, and so on.
+// A stride passed twice costs nothing: the compiler leaves out the second comparison.
 fn items_rise(units: &[u16], given: &[u8]) -> bool
     requires { ⌜ Sized (now units) (entries 4 (now given)) × (1 < length (now units)) ⌝ }
     ensures { λ b. ⌜ b ≡ rising (now (units .entry)) (entries 4 (now (given .entry))) (rowsOf (now (units .entry))) ⌝ }

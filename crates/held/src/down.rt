@@ -31,8 +31,8 @@ fn put_back(row: usize, stride: usize, less: u32, more: u32) -> usize
 
 // From row a the next row down that row b holds and that can pay, plus 1; 0 where there is none; less and more are the words of rows a and b.
 // Tries each item, from the last to the first: one unit less of it than row a has, and of the items after it the units of row b. Caps do not
-// fall as units are added, so where that row cannot pay, none with fewer units of the item can. Written out item by item: a processor
-// predicts a test of each item better than one test that a loop repeats.
+// fall as units are added, so where that row cannot pay, none with fewer units of the item can. Written out item by item, which takes less
+// time than a loop.
 pub fn next_down(
     units: &[u16],
     strides: &[usize; 4],
