@@ -14,7 +14,7 @@
  * the work area.
  *
  * Threads. The library has no state of its own: calls on different areas may run at the same time. Stack: a call needs
- * at most about 13 KiB (seen: 12,472 bytes, planning a table of 128 rows); give a thread 32 KiB.
+ * at most about 11 KiB (seen: 11,000 bytes, planning a table of 128 rows); give a thread 32 KiB.
  */
 #ifndef YOLKGORGE_H
 #define YOLKGORGE_H
