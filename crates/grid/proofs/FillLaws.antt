@@ -8,7 +8,7 @@ use native.Mathlib.Omega.{arith}
 use borrow.Author.Tests.{eq-eqb}
 use lib.Dec.{leb}
 use lib.ListN.{length, getD, set, take, drop, length-append, length-drop, drop-of-length-le}
-use lib.Seq.{take-suc, drop-cons, drop-length, append-snoc, set-at, length-take-le, length-front, getD-set-same, getD-set-other}
+use lib.Seq.{take-suc, drop-cons, append-snoc, set-at, getD-set-same, getD-set-other}
 use Rattle.grid.specs.Rows.{largestBelow, rising}
 use Rattle.grid.specs.Map.{bitAt, stands, standing}
 use Rattle.grid.specs.Cells.{cellOf, filled, Fills}

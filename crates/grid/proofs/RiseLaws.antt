@@ -1,13 +1,13 @@
 -- Rising, by the units in the words of the rows. Assumes nothing.
-use mathlib.Core.Path.{_≡_, refl, sym, ap, ap₂, _∙_}
-use mathlib.Core.Bool.{Bool, true, false, cond, _&&_, and-true}
+use mathlib.Core.Path.{_≡_, refl, sym, _∙_}
+use mathlib.Core.Bool.{Bool, true, false, _&&_, and-true}
 use mathlib.Core.List.{List, [], _∷_}
 use Prim.Native.Nat.{ℕ, zero, suc, _+_, _-_, _*_, _/_, _%_, _^_, _≤_, _<_, max}
 use native.Mathlib.Nat.{add-suc, add-zero, div-eq-of-lt, div-lt-iff-lt-mul, div-one, le-div-iff-mul-le, mod-eq-of-lt, one-mul, zero-div, zero-mod}
 use native.Mathlib.Decide.{decLt}
 use native.Mathlib.Omega.{arith}
 use borrow.Author.Tests.{lt-ltb, le-leb, lt-leb}
-use lib.Dec.{ltb, leb}
+use lib.Dec.{leb}
 use lib.ListN.{length, getD, drop}
 use lib.Seq.{drop-drop}
 use Rattle.grid.specs.Rows.{rowsOf, lessOne, largestBelow, rising}
@@ -103,35 +103,36 @@ again true false = refl
 again false b = refl
 
 module _ (us cells : List ℕ) (small : Small us) (r : ℕ) where
-  abbrev unitsOf : ℕ → ℕ
-  unitsOf i = packed us r / 256 ^ i % 256
+  -- the units of the item that i items come after
+  abbrev byteOf : ℕ → ℕ
+  byteOf i = packed us r / 256 ^ i % 256
 
-  -- the test of the item that i items come after
+  -- and its test
   abbrev itemTest : ℕ → Bool
-  itemTest i = unitNotBelow (unitsOf i) (lastRows us i) cells r
+  itemTest i = unitNotBelow (byteOf i) (lastRows us i) cells r
 
   by-items : leb (largestBelow us cells r) (getD cells r 0) ≡ (((unitNotBelow (packed us r % 256) 1 cells r && itemTest 1) && itemTest 2) && itemTest 3)
   unfolding belowBy
   by-items =
       rw (← largest-all us (stridesOf us) cells r small (strides-known us small), leb-max, leb-max, leb-max, leb-max, le-leb 0 (getD cells r 0) (omega arith), div-one, last-none us)
 
-  byte-at : (i : ℕ) → i < length us → unitsOf i ≡ r / lastRows us i % (getD us (length us - suc i) 0 + 1)
+  byte-at : (i : ℕ) → i < length us → byteOf i ≡ r / lastRows us i % (getD us (length us - suc i) 0 + 1)
   byte-at i h =
       let known = strides-known us small in
       byte-is us (stridesOf us) cells r small known i h ∙ rw (known .stride-at i h)
 
   -- a row of the last i items has no unit of one before them, and so passes its test
-  no-unit : (i j : ℕ) → i ≤ j → r < lastRows us i → unitsOf j ≡ 0
+  no-unit : (i j : ℕ) → i ≤ j → r < lastRows us i → byteOf j ≡ 0
   no-unit i j h few = go (decLt j (length us))
     where
-      go : Dec (j < length us) → unitsOf j ≡ 0
+      go : Dec (j < length us) → byteOf j ≡ 0
       go (yes l) =
           let more : lastRows us i ≤ lastRows us j = last-le us i j h (omega arith) in
           let below : r < lastRows us j = omega arith in
           byte-at j l ∙ rw (div-eq-of-lt below) (zero-mod (getD us (length us - suc j) 0 + 1))
       go (no l) = no-byte us r j small (omega arith)
 
-  passes : (i : ℕ) (k : ℕ) → unitsOf i ≡ 0 → unitNotBelow (unitsOf i) k cells r ≡ true
+  passes : (i : ℕ) (k : ℕ) → byteOf i ≡ 0 → unitNotBelow (byteOf i) k cells r ≡ true
   passes i k e = rw e (le-leb 0 (getD cells r 0) (omega arith))
 
   -- a row with a unit of an item is compared

@@ -24,7 +24,7 @@ use Rattle.contract.specs.Table.{Layout, Grid, part, unitsOf, cellsOf, tableCon
 use Rattle.contract.specs.declared.Form.the-variants.{Table}
 use Rattle.contract.proofs.ParsedValid.TableValid.{cells-length}
 use Rattle.record.specs.View.Answer.{acceptance}
-use Rattle.record.specs.View.Table.{Items, Laid, LastLargest, Within, Told, Filled, gridOf, givenIn, givenRise, shown}
+use Rattle.record.specs.View.Table.{Items, Laid, LastLargest, Within, RisesIs, Filled, gridOf, givenIn, givenRise, gridCells}
 use Rattle.record.specs.declared.table.Grid as code
 use Rattle.record.specs.declared.Reply.{Reply}
 use Rattle.record.proofs.TableLaws.{column-bytes}
@@ -56,12 +56,12 @@ given-last us gs e =
     record { some = rw (all .0) (rows-pos us); last = rw (all .0) (last-largest us gs (all .1)) }
 
 -- then the given cells are the cells of the grid
-pub given-fills : {s us before : List ℕ} (g : code.Grid) → Within s (length before) (gridOf g) → Sized us before → Told s us g → g .rises ≡ true
-    → Filled s us (gridOf g) before true (shown s g before)
-given-fills {s} {us} {before} g w sized told e =
+pub given-fills : {s us before : List ℕ} (g : code.Grid) → Within s (length before) (gridOf g) → Sized us before → RisesIs s us g → g .rises ≡ true
+    → Filled s us (gridOf g) before true (gridCells s g before)
+given-fills {s} {us} {before} g w sized said e =
     let gs : List ℕ = givenIn s (gridOf g) in
     let map : List ℕ = part (g .map) (g .cells) s in
-    let all = given-all us gs (sym told ∙ e) in
+    let all = given-all us gs (sym said ∙ e) in
     let long : length (part (g .cells) (g .end) s) ≡ g .end - g .cells = length-take-le (g .end - g .cells) (drop (g .cells) s) (simp length-drop (omega (arith, w .cells-end, w .within))) in
     let count : length gs ≡ (g .end - g .cells) / 4 = entries-length 4 (part (g .cells) (g .end) s) ∙ rw long in
     let stand : standing map (length before) ≡ length before = omega (arith, w .counted, all .0, sized .long) in

@@ -10,7 +10,7 @@ ghost use Rattle.contract.specs.Table.{allWithin, gridsAt, tableAt, tableEnd, t
 ghost use Rattle.contract.specs.Parse.{sized};
 ghost use Rattle.record.specs.View.Head.{headOf, ReadHead};
 ghost use Rattle.contract.specs.declared.Form.the-variants.{Table};
-ghost use Rattle.record.specs.View.Table.{Items, Counted, givenRise, LastLargest, gridOf, Within, Stands, Told, Units, Grids, Tables, Laid, layoutOf, TableTold, shown, Filled, Working};
+ghost use Rattle.record.specs.View.Table.{Items, Counted, givenRise, LastLargest, gridOf, Within, RisesIs, Units, Grids, Tables, Laid, layoutOf, TableRises, gridCells, Filled, Working};
 ghost use Rattle.record.specs.Promise.{Reads};
 use super::Outcome;
 use super::accept;
@@ -179,8 +179,8 @@ fn table_at(s: &[u8], at: usize) -> LayoutReply
 
 // Fills the cells of a grid, and says whether none falls. Where all are given and none does, they stay in the record.
 fn fill_cells(s: &[u8], units: &[u16], g: Grid, cells: &mut [u32]) -> bool
-    requires { ⌜ Within (now s) (length (now cells)) (gridOf g) × Sized (now units) (now cells) × Told (now s) (now units) g ⌝ }
-    ensures { λ r. ⌜ Filled (now (s .entry)) (now (units .entry)) (gridOf g) (now (cells .entry)) r (shown (now (s .entry)) g (now (cells .exit))) ⌝ }
+    requires { ⌜ Within (now s) (length (now cells)) (gridOf g) × Sized (now units) (now cells) × RisesIs (now s) (now units) g ⌝ }
+    ensures { λ r. ⌜ Filled (now (s .entry)) (now (units .entry)) (gridOf g) (now (cells .entry)) r (gridCells (now (s .entry)) g (now (cells .exit))) ⌝ }
 {
     if g.rises {
         return true;
@@ -193,8 +193,8 @@ fn fill_cells(s: &[u8], units: &[u16], g: Grid, cells: &mut [u32]) -> bool
 
 // Stores the cells of a grid: those of the record where all are given and none falls, else as they were filled.
 fn store_cells(s: &[u8], g: Grid, cells: &[u32], out: &mut [u32])
-    requires { ⌜ Stands (now s) (gridOf g) × (length (shown (now s) g (now cells)) ≤ length (now out)) ⌝ }
-    ensures { λ _. ⌜ now (out .exit) ≡ shown (now (s .entry)) g (now (cells .entry)) ++ drop (length (shown (now (s .entry)) g (now (cells .entry)))) (now (out .entry)) ⌝ }
+    requires { ⌜ (g .cells ≤ g .end) × (g .end ≤ length (now s)) × (length (gridCells (now s) g (now cells)) ≤ length (now out)) ⌝ }
+    ensures { λ _. ⌜ now (out .exit) ≡ gridCells (now (s .entry)) g (now (cells .entry)) ++ drop (length (gridCells (now (s .entry)) g (now (cells .entry)))) (now (out .entry)) ⌝ }
 {
     if g.rises {
         let i = g.cells;
@@ -240,7 +240,7 @@ fn read_cells(
 
 // Lends the work areas, which a refusal leaves no trace of.
 fn read_layout(s: &[u8], h: Head, t: Layout, costs: &mut [u32], values: &mut [u32]) -> Outcome
-    requires { ⌜ ReadHead Table (headOf h) × Laid (now s) (layoutOf t) × TableTold (now s) t ⌝ }
+    requires { ⌜ ReadHead Table (headOf h) × Laid (now s) (layoutOf t) × TableRises (now s) t ⌝ }
     ensures { λ r. ⌜ Reads (sized (tableEnd (now (s .entry)) (headOf h) (layoutOf t)) (length (now (costs .entry))) (length (now (values .entry)))) (now (costs .entry)) (now (values .entry)) r (now (costs .exit)) (now (values .exit)) ⌝ }
 {
     let n = t.rows;

@@ -60,9 +60,9 @@ givenRise us gs = eqb (length gs) (rowsOf us) && rising us gs (rowsOf us)
 abbrev pub givenIn : List ℕ → table.Grid → List ℕ
 givenIn s g = entries 4 (part (g .cells) (g .end) s)
 
--- what the code says of a grid beside where it lies
-abbrev pub Told : List ℕ → List ℕ → Grid → Type 0
-Told s us g = g .rises ≡ givenRise us (givenIn s (gridOf g))
+-- the code's flag of a grid: whether every cell is given and none falls
+abbrev pub RisesIs : List ℕ → List ℕ → Grid → Type 0
+RisesIs s us g = g .rises ≡ givenRise us (givenIn s (gridOf g))
 
 -- a map of the rows and its cells, as many as rows stand, lie one after the other within the record
 pub record Within (s : List ℕ) (rows : ℕ) (g : table.Grid) : Type 0 where
@@ -76,16 +76,16 @@ abbrev pub WithinIn : List ℕ → ℕ → Res table.Grid → Type 0
 WithinIn s rows (refused n) = Unit {0}
 WithinIn s rows (ok g) = Within s rows g
 
--- what is said of a grid that was found
-abbrev pub ToldIn : List ℕ → List ℕ → GridReply → Type 0
-ToldIn s us (GridReply.Refused e) = Unit {0}
-ToldIn s us (GridReply.Got g) = Told s us g
+-- the flag of a grid that was found
+abbrev pub RisesIn : List ℕ → List ℕ → GridReply → Type 0
+RisesIn s us (GridReply.Refused e) = Unit {0}
+RisesIn s us (GridReply.Got g) = RisesIs s us g
 
 -- what reading a grid gives
 pub record Grids (s us : List ℕ) (rows m : ℕ) (r : GridReply) : Type 0 where
   pub meets : viewGrid r ≡ gridAt s rows m
   pub within : WithinIn s rows (viewGrid r)
-  pub told : ToldIn s us r
+  pub rises-is : RisesIn s us r
 
 -- the layout that the code's struct holds
 abbrev pub layoutOf : Layout → table.Layout
@@ -116,29 +116,24 @@ abbrev pub LaidIn : List ℕ → Res table.Layout → Type 0
 LaidIn s (refused n) = Unit {0}
 LaidIn s (ok t) = Laid s t
 
--- what is said of a table's grids
-pub record TableTold (s : List ℕ) (t : Layout) : Type 0 where
-  pub costs-told : Told s (unitsOf s (layoutOf t)) (t .costs)
-  pub values-told : Told s (unitsOf s (layoutOf t)) (t .values)
+-- the flags of a table's grids
+pub record TableRises (s : List ℕ) (t : Layout) : Type 0 where
+  pub costs-rise : RisesIs s (unitsOf s (layoutOf t)) (t .costs)
+  pub values-rise : RisesIs s (unitsOf s (layoutOf t)) (t .values)
 
-abbrev pub TableToldIn : List ℕ → LayoutReply → Type 0
-TableToldIn s (LayoutReply.Refused e) = Unit {0}
-TableToldIn s (LayoutReply.Got t) = TableTold s t
+abbrev pub TableRisesIn : List ℕ → LayoutReply → Type 0
+TableRisesIn s (LayoutReply.Refused e) = Unit {0}
+TableRisesIn s (LayoutReply.Got t) = TableRises s t
 
 -- what finding a table's parts gives
 pub record Tables (s : List ℕ) (answer : Res table.Layout) (r : LayoutReply) : Type 0 where
   pub meets : viewLayout r ≡ answer
   pub laid : LaidIn s (viewLayout r)
-  pub told : TableToldIn s r
+  pub rises-is : TableRisesIn s r
 
--- the cells of a grid: the given ones where the code says that all are given and none falls, else those that were filled
-abbrev pub shown : List ℕ → Grid → List ℕ → List ℕ
-shown s g filled = cond (g .rises) (givenIn s (gridOf g)) filled
-
--- the cells of a grid stand within the record
-pub record Stands (s : List ℕ) (g : table.Grid) : Type 0 where
-  pub cells-end : g .cells ≤ g .end
-  pub within : g .end ≤ length s
+-- the cells of a grid: the given ones where the flag says that all are given and none falls, else those that were filled
+abbrev pub gridCells : List ℕ → Grid → List ℕ → List ℕ
+gridCells s g filled = cond (g .rises) (givenIn s (gridOf g)) filled
 
 -- the cells of a grid, blanks filled
 abbrev pub Filled : List ℕ → List ℕ → table.Grid → List ℕ → Bool → List ℕ → Type 0
@@ -148,7 +143,7 @@ Filled s us g before rises after = Fills us (part (g .map) (g .cells) s) (givenI
 pub record Working (s : List ℕ) (h : Head) (t : Layout) (c v : List ℕ) : Type 0 where
   pub head : ReadHead Table h
   pub laid : Laid s (layoutOf t)
-  pub told : TableTold s t
+  pub rises-is : TableRises s t
   pub costs-long : length c ≡ t .rows
   pub values-long : length v ≡ t .rows
 

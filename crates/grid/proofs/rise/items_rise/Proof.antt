@@ -28,21 +28,27 @@ add-a : tie.Need-add-a
 add-a c = search needs
 
 run-rises-requires : tie.Need-run-rises-requires
-run-rises-requires c κs = omega (arith, next-le (c .before .before .before .before .before .pre .0) {i = 0} {k = 1} {m = c .wide .result + 1} (omega (arith, c .before .before .before .before .before .pre .1)) (sym (last-none (now (c .before .before .before .before .before .args .units)))) (rw (c .wide .ensures .0)))
+run-rises-requires c κs =
+    let pre = c .before .before .before .before .before .pre in
+    omega (arith, next-le (pre .0) {i = 0} {k = 1} {m = c .wide .result + 1} (omega (arith, pre .1)) (sym (last-none (now (c .before .before .before .before .before .args .units)))) (rw (c .wide .ensures .0)))
 
 -- the rows of one item, of two and of three, and what was said of them
 one-risen : (c : tie.After-run-rises) → Risen (now (c .before .before .before .before .before .before .args .units)) (entries 4 (now (c .before .before .before .before .before .before .args .given))) 1 (c .before .wide .result + 1) (c .run-rises .result)
 one-risen c = risen-alone (c .before .before .before .before .before .before .pre .0) (omega (arith, c .before .before .before .before .before .before .pre .1)) (rw (c .before .wide .ensures .0)) (c .run-rises .ensures)
 
 two-risen : (c : tie.After-rows-rise) → Risen (now (c .before .before .before .before .before .before .before .before .before .before .args .units)) (entries 4 (now (c .before .before .before .before .before .before .before .before .before .before .args .given))) 2 ((c .before .before .before .before .before .wide .result + 1) * (c .before .before .wide2 .result + 1)) (c .rows-rise .result)
-two-risen c = risen-two (c .before .before .before .before .before .before .before .before .before .before .pre .0) (c .before .before .before .before .before .before .before .all-units .ensures) (c .before .before .before .before .before .before .before .before .before .before .pre .1) (one-risen (c .before .before .before .before)) (rw (c .before .before .wide2 .ensures .0)) (c .rows-rise .ensures)
+two-risen c =
+    let pre = c .before .before .before .before .before .before .before .before .before .before .pre in
+    risen-two (pre .0) (c .before .before .before .before .before .before .before .all-units .ensures) (pre .1) (one-risen (c .before .before .before .before)) (rw (c .before .before .wide2 .ensures .0)) (c .rows-rise .ensures)
 
 -- a third item is there
 third : (c : tie.Else1) → 2 < length (now (c .before .before .before .before .before .before .before .before .before .before .before .args .units))
 third c = omega (arith, c .before .before .before .before .before .before .before .before .before .before .before .pre .1, c .if1 .left)
 
 three-risen : (c : tie.After-rows-rise2) → Risen (now (c .before .before .before .before .before .before .before .before .before .before .before .before .before .before .before .args .units)) (entries 4 (now (c .before .before .before .before .before .before .before .before .before .before .before .before .before .before .before .args .given))) 3 ((c .before .before .before .before .before .before .before .before .before .before .wide .result + 1) * (c .before .before .before .before .before .before .before .wide2 .result + 1) * (c .before .before .wide3 .result + 1)) (c .rows-rise2 .result)
-three-risen c = risen-three (c .before .before .before .before .before .before .before .before .before .before .before .before .before .before .before .pre .0) (c .before .before .before .before .before .before .before .before .before .before .before .before .all-units .ensures) (one-risen (c .before .before .before .before .before .before .before .before .before)) (two-risen (c .before .before .before .before .before)) (third (c .before .before .before .before)) (rw (c .before .before .wide3 .ensures .0)) (c .rows-rise2 .ensures)
+three-risen c =
+    let pre = c .before .before .before .before .before .before .before .before .before .before .before .before .before .before .before .pre in
+    risen-three (pre .0) (c .before .before .before .before .before .before .before .before .before .before .before .before .all-units .ensures) (one-risen (c .before .before .before .before .before .before .before .before .before)) (two-risen (c .before .before .before .before .before)) (third (c .before .before .before .before)) (rw (c .before .before .wide3 .ensures .0)) (c .rows-rise2 .ensures)
 
 sub-wide-2 : tie.Need-sub-wide-2
 sub-wide-2 c = search needs
@@ -60,10 +66,14 @@ add-b : tie.Need-add-b
 add-b c = search needs
 
 mul-b : tie.Need-mul-b
-mul-b c = omega (arith, next-le (c .before .before .before .before .before .before .before .before .pre .0) {m = c .wide2 .result + 1} (c .before .before .before .before .before .before .before .before .pre .1) (one-risen (c .before .before) .rows) (rw (c .wide2 .ensures .0)), c .before .before .before .before .before .before .before .before .pre .0 .long, c .before .before .before .before .before .before .before .before .pre .0 .small .rows)
+mul-b c =
+    let pre = c .before .before .before .before .before .before .before .before .pre in
+    omega (arith, next-le (pre .0) {m = c .wide2 .result + 1} (pre .1) (one-risen (c .before .before) .rows) (rw (c .wide2 .ensures .0)), pre .0 .long, pre .0 .small .rows)
 
 rows-rise-requires : tie.Need-rows-rise-requires
-rows-rise-requires c κs = item-segment (c .before .before .before .before .before .before .before .before .before .pre .0) (c .before .before .before .before .before .before .before .before .before .pre .1) (one-risen (c .before .before .before) .rows) (rw (c .before .wide2 .ensures .0)) (omega arith) (omega arith)
+rows-rise-requires c κs =
+    let pre = c .before .before .before .before .before .before .before .before .before .pre in
+    item-segment (pre .0) (pre .1) (one-risen (c .before .before .before) .rows) (rw (c .before .wide2 .ensures .0)) (omega arith) (omega arith)
 
 returns : tie.Need-returns
 returns c = risen-all (two-risen (c .before)) (omega (arith, c .if1 .taken))
@@ -84,10 +94,14 @@ add-c : tie.Need-add-c
 add-c c = search needs
 
 mul-c : tie.Need-mul-c
-mul-c c = omega (arith, next-le (c .before .before .before .before .before .before .before .before .before .before .before .before .before .pre .0) {m = c .wide3 .result + 1} (third (c .before .before)) (two-risen (c .before .before .before) .rows) (rw (c .wide3 .ensures .0)), c .before .before .before .before .before .before .before .before .before .before .before .before .before .pre .0 .long, c .before .before .before .before .before .before .before .before .before .before .before .before .before .pre .0 .small .rows)
+mul-c c =
+    let pre = c .before .before .before .before .before .before .before .before .before .before .before .before .before .pre in
+    omega (arith, next-le (pre .0) {m = c .wide3 .result + 1} (third (c .before .before)) (two-risen (c .before .before .before) .rows) (rw (c .wide3 .ensures .0)), pre .0 .long, pre .0 .small .rows)
 
 rows-rise-requires-2 : tie.Need-rows-rise-requires-2
-rows-rise-requires-2 c κs = item-segment (c .before .before .before .before .before .before .before .before .before .before .before .before .before .before .pre .0) (third (c .before .before .before)) (two-risen (c .before .before .before .before) .rows) (rw (c .before .wide3 .ensures .0)) (risen-le (omega arith) (omega (arith, c .before .before .before .before .before .before .before .before .before .before .before .before .before .before .pre .1)) (one-risen (c .before .before .before .before .before .before .before .before)) (two-risen (c .before .before .before .before))) (omega arith)
+rows-rise-requires-2 c κs =
+    let pre = c .before .before .before .before .before .before .before .before .before .before .before .before .before .before .pre in
+    item-segment (pre .0) (third (c .before .before .before)) (two-risen (c .before .before .before .before) .rows) (rw (c .before .wide3 .ensures .0)) (risen-le (omega arith) (omega (arith, pre .1)) (one-risen (c .before .before .before .before .before .before .before .before)) (two-risen (c .before .before .before .before))) (omega arith)
 
 returns-2 : tie.Need-returns-2
 returns-2 c = risen-all (three-risen (c .before)) (omega (arith, c .if2 .taken))
@@ -112,13 +126,25 @@ add-d : tie.Need-add-d
 add-d c = search needs
 
 mul-d : tie.Need-mul-d
-mul-d c = omega (arith, next-le (c .before .before .before .before .before .before .before .before .before .before .before .before .before .before .before .before .before .before .pre .0) {m = c .wide4 .result + 1} (fourth (c .before .before)) (three-risen (c .before .before .before) .rows) (rw (c .wide4 .ensures .0)), c .before .before .before .before .before .before .before .before .before .before .before .before .before .before .before .before .before .before .pre .0 .long, c .before .before .before .before .before .before .before .before .before .before .before .before .before .before .before .before .before .before .pre .0 .small .rows)
+mul-d c =
+    let pre = c .before .before .before .before .before .before .before .before .before .before .before .before .before .before .before .before .before .before .pre in
+    omega (arith, next-le (pre .0) {m = c .wide4 .result + 1} (fourth (c .before .before)) (three-risen (c .before .before .before) .rows) (rw (c .wide4 .ensures .0)), pre .0 .long, pre .0 .small .rows)
 
 rows-rise-requires-3 : tie.Need-rows-rise-requires-3
-rows-rise-requires-3 c κs = item-segment (c .before .before .before .before .before .before .before .before .before .before .before .before .before .before .before .before .before .before .before .pre .0) (fourth (c .before .before .before)) (three-risen (c .before .before .before .before) .rows) (rw (c .before .wide4 .ensures .0)) (risen-le (omega arith) (omega (arith, fourth (c .before .before .before))) (one-risen (c .before .before .before .before .before .before .before .before .before .before .before .before .before)) (three-risen (c .before .before .before .before))) (risen-le (omega arith) (omega (arith, fourth (c .before .before .before))) (two-risen (c .before .before .before .before .before .before .before .before .before)) (three-risen (c .before .before .before .before)))
+rows-rise-requires-3 c κs =
+    let more = fourth (c .before .before .before) in
+    let three = three-risen (c .before .before .before .before) in
+    item-segment (c .before .before .before .before .before .before .before .before .before .before .before .before .before .before .before .before .before .before .before .pre .0) more (three .rows) (rw (c .before .wide4 .ensures .0))
+    (risen-le (omega arith) (omega (arith, more)) (one-risen (c .before .before .before .before .before .before .before .before .before .before .before .before .before)) three)
+    (risen-le (omega arith) (omega (arith, more)) (two-risen (c .before .before .before .before .before .before .before .before .before)) three)
 
 returns-3 : tie.Need-returns-3
-returns-3 c = risen-all (risen-four (c .before .before .before .before .before .before .before .before .before .before .before .before .before .before .before .before .before .before .before .before .pre .0) (c .before .before .before .before .before .before .before .before .before .before .before .before .before .before .before .before .before .all-units .ensures) (one-risen (c .before .before .before .before .before .before .before .before .before .before .before .before .before .before)) (two-risen (c .before .before .before .before .before .before .before .before .before .before)) (fourth (c .before .before .before .before)) (three-risen (c .before .before .before .before .before)) (rw (c .before .before .wide4 .ensures .0)) (c .rows-rise3 .ensures)) (omega (arith, fourth (c .before .before .before .before), c .before .before .before .before .before .before .before .before .before .before .before .before .before .before .before .before .before .before .before .before .pre .0 .small .items))
+returns-3 c =
+    let pre = c .before .before .before .before .before .before .before .before .before .before .before .before .before .before .before .before .before .before .before .before .pre in
+    let more = fourth (c .before .before .before .before) in
+    risen-all
+    (risen-four (pre .0) (c .before .before .before .before .before .before .before .before .before .before .before .before .before .before .before .before .before .all-units .ensures) (one-risen (c .before .before .before .before .before .before .before .before .before .before .before .before .before .before)) (two-risen (c .before .before .before .before .before .before .before .before .before .before)) more (three-risen (c .before .before .before .before .before)) (rw (c .before .before .wide4 .ensures .0)) (c .rows-rise3 .ensures))
+    (omega (arith, more, pre .0 .small .items))
 
 pub items-rise-spec : {M : Type 1} → statement M
 items-rise-spec =

@@ -19,7 +19,7 @@ returns : tie.Need-returns
 unfolding gridAt
 returns c =
     let a = c .before .before .before .args in
-    record { meets = simp (lt-leb (a .map + mapSize (a .rows)) (length (now (a .s))) (omega arith)); within = tt; told = tt }
+    record { meets = simp (lt-leb (a .map + mapSize (a .rows)) (length (now (a .s))) (omega arith)); within = tt; rises-is = tt }
 
 sub-if2 : tie.Need-sub-if2
 sub-if2 c = search needs
@@ -28,7 +28,7 @@ returns-2 : tie.Need-returns-2
 unfolding gridAt
 returns-2 c =
     let a = c .before .before .before .before .args in
-    record { meets = simp (lt-leb (a .map + mapSize (a .rows)) (length (now (a .s))) (omega arith)); within = tt; told = tt }
+    record { meets = simp (lt-leb (a .map + mapSize (a .rows)) (length (now (a .s))) (omega arith)); within = tt; rises-is = tt }
 
 add-cells : tie.Need-add-cells
 add-cells c = search needs
@@ -52,7 +52,7 @@ returns-3 c =
     record {
       meets = simp (le-leb (a .map + mapSize (a .rows)) (length (now (a .s))) (omega arith), ne-eqb _ _ (λ q. c .if3 .taken (c .before .bits-from .ensures ∙ q)));
       within = tt;
-      told = tt;
+      rises-is = tt;
     }
 
 sub-ones : tie.Need-sub-ones
@@ -84,7 +84,7 @@ returns-4 c =
     record {
       meets = simp (le-leb i (length s) (omega arith), eq-eqb _ _ (sym (c .before .before .before .before .bits-from .ensures) ∙ c .before .before .before .if3 .left), lt-leb _ _ over);
       within = tt;
-      told = tt;
+      rises-is = tt;
     }
 
 mul-end : tie.Need-mul-end
@@ -131,7 +131,7 @@ returns-5 c =
     record {
       meets = rw e (simp (le-leb i (length s) (omega arith), eq-eqb _ _ clear, le-leb _ _ room, sym (rw e at (c .before .cells-within .ensures)) ∙ c .if5 .taken));
       within = record { map-end = omega arith; cells-end = omega arith; within = omega arith; counted = rw (← rows, ← e) (omega arith) };
-      told = c .before .before .before .given-rise .ensures;
+      rises-is = c .before .before .before .given-rise .ensures;
     }
 
 returns-6 : tie.Need-returns-6
@@ -146,7 +146,7 @@ returns-6 c =
     record {
       meets = simp (le-leb i (length s) (omega arith), eq-eqb _ _ (sym (c .before .before .before .before .before .before .before .before .before .bits-from .ensures) ∙ c .before .before .before .before .before .before .before .before .if3 .left), le-leb _ _ room, sym (rw e at (c .before .cells-within .ensures)) ∙ c .if5 .left);
       within = tt;
-      told = tt;
+      rises-is = tt;
     }
 
 pub grid-at-spec : {M : Type 1} → statement M

@@ -29,7 +29,7 @@ returns c =
     record {
       meets = simp (rows-none (part (a .first) (a .after) (now (a .s))) (counted (c .before .before .before .before .before .pre) (c .before .before .before .units-of .ensures) (c .before .row-count .ensures)) (c .if1 .taken));
       laid = tt;
-      told = tt;
+      rises-is = tt;
     }
 
 -- the rows that were counted
@@ -70,7 +70,7 @@ returns-2 : tie.Need-returns-2
 unfolding gridsAt
 returns-2 c =
     let r = rows-read (c .before .before .before .before .before) in
-    record { meets = simp (r .test, rw (r .rows) at (asked viewGrid (c .before .before .before .grid-at .ensures .meets) (c .before .e .given .1))); laid = tt; told = tt }
+    record { meets = simp (r .test, rw (r .rows) at (asked viewGrid (c .before .before .before .grid-at .ensures .meets) (c .before .e .given .1))); laid = tt; rises-is = tt }
 
 returns-3 : tie.Need-returns-3
 unfolding gridsAt
@@ -80,7 +80,7 @@ returns-3 c =
       meets =
           simp (r .test, rw (r .rows) at (asked viewGrid (c .before .before .before .before .before .before .before .before .grid-at .ensures .meets) (c .before .before .before .before .before .before .costs .given .1)), rw (r .rows) at (asked viewGrid (c .before .before .before .grid-at2 .ensures .meets) (c .before .e2 .given .1)));
       laid = tt;
-      told = tt;
+      rises-is = tt;
     }
 
 returns-4 : tie.Need-returns-4
@@ -100,7 +100,7 @@ returns-4 c =
             costs-in = rw costs at (c .before .before .before .before .before .before .before .before .grid-at .ensures .within);
             values-in = rw values at (c .before .before .before .grid-at2 .ensures .within);
           };
-      told = record { costs-told = rw (costs, us) at (c .before .before .before .before .before .before .before .before .grid-at .ensures .told); values-told = rw (values, us) at (c .before .before .before .grid-at2 .ensures .told) };
+      rises-is = record { costs-rise = rw (costs, us) at (c .before .before .before .before .before .before .before .before .grid-at .ensures .rises-is); values-rise = rw (values, us) at (c .before .before .before .grid-at2 .ensures .rises-is) };
     }
 
 pub grids-at-spec : {M : Type 1} → statement M

@@ -6,7 +6,7 @@ use Rattle.contract.specs.Table.{tableContract}
 use Rattle.contract.proofs.ParsedValid.TableValid.{cells-length}
 use Rattle.contract.specs.declared.Refusal.the-variants.{Falling, Short}
 use Rattle.record.specs.View.Head.{headOf}
-use Rattle.record.specs.View.Table.{gridOf, layoutOf, shown}
+use Rattle.record.specs.View.Table.{gridOf, layoutOf, gridCells}
 use Rattle.record.proofs.AnswerLaws.{refuses, accepts, sized-stop}
 use Rattle.record.proofs.TableLaws.{units-front, units-read}
 use Rattle.record.proofs.CellLaws.{CellsRead, cells-sized, cells-read, said-costs-fall, said-values-fall, said-cells, table-header}
@@ -30,13 +30,13 @@ fill-cells-requires : tie.Need-fill-cells-requires
 fill-cells-requires c κs =
     let pre = c .before .before .before .before .before .before .before .before .before .before .before .pre in
     let us = units-read (pre .laid .items) (c .before .before .before .before .units-of .ensures) in
-    (rw (pre .costs-long) (pre .laid .costs-in), cells-sized (layoutOf (c .before .before .before .before .before .before .before .before .before .before .before .args .t)) (pre .laid) us (pre .costs-long), rw us (pre .told .costs-told))
+    (rw (pre .costs-long) (pre .laid .costs-in), cells-sized (layoutOf (c .before .before .before .before .before .before .before .before .before .before .before .args .t)) (pre .laid) us (pre .costs-long), rw us (pre .rises-is .costs-rise))
 
 -- what the costs, and then the values, were filled with
-costs-read : (c : tie.After-fill-cells) → CellsRead (now (c .before .before .before .before .before .before .before .before .before .before .before .before .args .s)) (layoutOf (c .before .before .before .before .before .before .before .before .before .before .before .before .args .t)) (gridOf (c .before .before .before .before .before .before .before .before .before .before .before .before .args .t .costs)) (c .fill-cells .result) (shown (now (c .before .before .before .before .before .before .before .before .before .before .before .before .args .s)) (c .before .before .before .before .before .before .before .before .before .before .before .before .args .t .costs) (c .fill-cells .last .1 .1 .1 .0))
+costs-read : (c : tie.After-fill-cells) → CellsRead (now (c .before .before .before .before .before .before .before .before .before .before .before .before .args .s)) (layoutOf (c .before .before .before .before .before .before .before .before .before .before .before .before .args .t)) (gridOf (c .before .before .before .before .before .before .before .before .before .before .before .before .args .t .costs)) (c .fill-cells .result) (gridCells (now (c .before .before .before .before .before .before .before .before .before .before .before .before .args .s)) (c .before .before .before .before .before .before .before .before .before .before .before .before .args .t .costs) (c .fill-cells .last .1 .1 .1 .0))
 costs-read c = cells-read _ _ (units-read (c .before .before .before .before .before .before .before .before .before .before .before .before .pre .laid .items) (c .before .before .before .before .before .units-of .ensures)) (c .before .before .before .before .before .before .before .before .before .before .before .before .pre .costs-long) (c .fill-cells .ensures)
 
-values-read : (c : tie.After-fill-cells2) → CellsRead (now (c .before .before .before .before .before .before .before .before .before .before .before .before .before .before .before .before .before .before .args .s)) (layoutOf (c .before .before .before .before .before .before .before .before .before .before .before .before .before .before .before .before .before .before .args .t)) (gridOf (c .before .before .before .before .before .before .before .before .before .before .before .before .before .before .before .before .before .before .args .t .values)) (c .fill-cells2 .result) (shown (now (c .before .before .before .before .before .before .before .before .before .before .before .before .before .before .before .before .before .before .args .s)) (c .before .before .before .before .before .before .before .before .before .before .before .before .before .before .before .before .before .before .args .t .values) (c .fill-cells2 .last .1 .1 .1 .0))
+values-read : (c : tie.After-fill-cells2) → CellsRead (now (c .before .before .before .before .before .before .before .before .before .before .before .before .before .before .before .before .before .before .args .s)) (layoutOf (c .before .before .before .before .before .before .before .before .before .before .before .before .before .before .before .before .before .before .args .t)) (gridOf (c .before .before .before .before .before .before .before .before .before .before .before .before .before .before .before .before .before .before .args .t .values)) (c .fill-cells2 .result) (gridCells (now (c .before .before .before .before .before .before .before .before .before .before .before .before .before .before .before .before .before .before .args .s)) (c .before .before .before .before .before .before .before .before .before .before .before .before .before .before .before .before .before .before .args .t .values) (c .fill-cells2 .last .1 .1 .1 .0))
 values-read c = cells-read _ _ (units-read (c .before .before .before .before .before .before .before .before .before .before .before .before .before .before .before .before .before .before .pre .laid .items) (c .before .before .before .before .before .before .before .before .before .before .before .units-of .ensures)) (c .before .before .before .before .before .before .before .before .before .before .before .before .before .before .before .before .before .before .pre .values-long) (c .fill-cells2 .ensures)
 
 refuse-requires : tie.Need-refuse-requires
@@ -60,7 +60,7 @@ fill-cells-requires-2 : tie.Need-fill-cells-requires-2
 fill-cells-requires-2 c κs =
     let pre = c .before .before .before .before .before .before .before .before .before .before .before .before .before .before .before .before .before .pre in
     let us = units-read (pre .laid .items) (c .before .before .before .before .before .before .before .before .before .before .units-of .ensures) in
-    (rw (pre .values-long) (pre .laid .values-in), cells-sized (layoutOf (c .before .before .before .before .before .before .before .before .before .before .before .before .before .before .before .before .before .args .t)) (pre .laid) us (pre .values-long), rw us (pre .told .values-told))
+    (rw (pre .values-long) (pre .laid .values-in), cells-sized (layoutOf (c .before .before .before .before .before .before .before .before .before .before .before .before .before .before .before .before .before .args .t)) (pre .laid) us (pre .values-long), rw us (pre .rises-is .values-rise))
 
 refuse-requires-2 : tie.Need-refuse-requires-2
 refuse-requires-2 c κs = search needs
@@ -112,14 +112,14 @@ store-cells-requires c κs =
     let t = layoutOf (c .before .before .before .before .before .before .before .before .before .before .before .before .before .before .before .before .before .before .before .before .before .before .before .before .before .before .before .args .t) in
     let grid = c .before .before .before .before .before .before .before .before .before .before .before .before .before .before .before .before .before .before .before .before .before .before .before .before .before .before .before .pre .laid .costs-in in
     let read = costs-read (c .before .before .before .before .before .before .before .before .before .before .before .before .before .before .before) in
-    (record { cells-end = grid .cells-end; within = grid .within }, rw (read .cells-are, cells-length (now (c .before .before .before .before .before .before .before .before .before .before .before .before .before .before .before .before .before .before .before .before .before .before .before .before .before .before .before .args .s)) t (t .costs)) (c .before .before .before .before .if3 .left))
+    (grid .cells-end, grid .within, rw (read .cells-are, cells-length (now (c .before .before .before .before .before .before .before .before .before .before .before .before .before .before .before .before .before .before .before .before .before .before .before .before .before .before .before .args .s)) t (t .costs)) (c .before .before .before .before .if3 .left))
 
 store-cells-requires-2 : tie.Need-store-cells-requires-2
 store-cells-requires-2 c κs =
     let t = layoutOf (c .before .before .before .before .before .before .before .before .before .before .before .before .before .before .before .before .before .before .before .before .before .before .before .before .before .before .before .before .before .before .before .before .args .t) in
     let grid = c .before .before .before .before .before .before .before .before .before .before .before .before .before .before .before .before .before .before .before .before .before .before .before .before .before .before .before .before .before .before .before .before .pre .laid .values-in in
     let read = values-read (c .before .before .before .before .before .before .before .before .before .before .before .before .before .before) in
-    (record { cells-end = grid .cells-end; within = grid .within }, rw (read .cells-are, cells-length (now (c .before .before .before .before .before .before .before .before .before .before .before .before .before .before .before .before .before .before .before .before .before .before .before .before .before .before .before .before .before .before .before .before .args .s)) t (t .values)) (c .before .before .before .before .before .before .before .if4 .left))
+    (grid .cells-end, grid .within, rw (read .cells-are, cells-length (now (c .before .before .before .before .before .before .before .before .before .before .before .before .before .before .before .before .before .before .before .before .before .before .before .before .before .before .before .before .before .before .before .before .args .s)) t (t .values)) (c .before .before .before .before .before .before .before .if4 .left))
 
 accept-requires : tie.Need-accept-requires
 accept-requires c κs = (c .before .before .before .before .before .before .before .before .before .before .before .before .before .before .before .before .before .before .before .before .before .before .before .before .before .before .before .before .before .before .before .before .before .before .before .pre .head .small, omega (arith, c .before .before .before .before .before .before .before .before .before .before .before .before .before .before .before .before .before .before .before .before .before .before .before .before .before .before .before .before .before .before .before .before .before .before .before .pre .laid .items .few))

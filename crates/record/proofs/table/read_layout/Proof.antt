@@ -21,7 +21,7 @@ slice-aggregate-read-cells-2 c = sym (length-take-le {A = ℕ} (c .before .befor
 read-cells-requires : tie.Need-read-cells-requires
 read-cells-requires c κs =
     let l = length-take-le {A = ℕ} (c .before .before .before .before .before .before .before .args .t .rows) (replicate 128 0) (c .before .before .before .before .before .before .before .pre .1 .rows-le) in
-    record { head = c .before .before .before .before .before .before .before .pre .0; laid = c .before .before .before .before .before .before .before .pre .1; told = c .before .before .before .before .before .before .before .pre .2; costs-long = l; values-long = l }
+    record { head = c .before .before .before .before .before .before .before .pre .0; laid = c .before .before .before .before .before .before .before .pre .1; rises-is = c .before .before .before .before .before .before .before .pre .2; costs-long = l; values-long = l }
 
 same-length : tie.Need-same-length
 same-length c = search needs

@@ -28,7 +28,7 @@ unfolding tableBody
 returns c = refuses _ _ Trailing (sized-stop _ _ (simp (asked viewLayout (c .before .before .before .before .before .before .table-at .ensures .meets) (c .before .before .before .before .t .given .1), ne-eqb _ _ (c .before .if1 .taken)))) (c .refuse2 .ensures)
 
 read-layout-requires : tie.Need-read-layout-requires
-read-layout-requires c κs = (c .before .before .before .before .before .before .before .before .before .before .before .pre, rw (c .before .before .before .before .before .t .given .1) at (c .before .before .before .before .before .before .before .table-at .ensures .laid), rw (c .before .before .before .before .before .t .given .1) at (c .before .before .before .before .before .before .before .table-at .ensures .told))
+read-layout-requires c κs = (c .before .before .before .before .before .before .before .before .before .before .before .pre, rw (c .before .before .before .before .before .t .given .1) at (c .before .before .before .before .before .before .before .table-at .ensures .laid), rw (c .before .before .before .before .before .t .given .1) at (c .before .before .before .before .before .before .before .table-at .ensures .rises-is))
 
 returns-2 : tie.Need-returns-2
 unfolding tableBody

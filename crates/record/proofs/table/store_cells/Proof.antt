@@ -12,7 +12,7 @@ part-copy-given-end : tie.Need-part-copy-given-end
 part-copy-given-end c = search needs
 
 copy-given-requires : tie.Need-copy-given-requires
-copy-given-requires c κs = rw (c .before .before .if1 .taken) at (c .before .before .before .before .before .before .pre .1)
+copy-given-requires c κs = rw (c .before .before .if1 .taken) at (c .before .before .before .before .before .before .pre .2)
 
 same-length : tie.Need-same-length
 same-length c = search needs
@@ -21,7 +21,7 @@ returns : tie.Need-returns
 returns c = rw (c .before .before .before .before .before .if1 .taken) (c .before .before .copy-given .ensures)
 
 copy-requires : tie.Need-copy-requires
-copy-requires c κs = rw (c .before .if1 .left) at (c .before .before .before .before .before .pre .1)
+copy-requires c κs = rw (c .before .if1 .left) at (c .before .before .before .before .before .pre .2)
 
 same-length-2 : tie.Need-same-length-2
 same-length-2 c = search needs

@@ -41,13 +41,13 @@ returns : tie.Need-returns
 unfolding tableAt
 returns c =
     let g = ranged-of (c .before .before .before .in-range .result) (c .before .before .before .before .byte .ensures) (c .before .before .before .in-range .ensures) in
-    record { meets = simp (asked viewField (g .meets) (c .before .e .given .1)); laid = tt; told = tt }
+    record { meets = simp (asked viewField (g .meets) (c .before .e .given .1)); laid = tt; rises-is = tt }
 
 returns-2 : tie.Need-returns-2
 unfolding tableAt
 returns-2 c =
     let g = ranged-of (c .before .before .before .before .before .before .before .in-range .result) (c .before .before .before .before .before .before .before .before .byte .ensures) (c .before .before .before .before .before .before .before .in-range .ensures) in
-    record { meets = simp (asked viewField (g .meets) (c .before .before .before .before .before .n .given .1), asked viewIndex (c .before .before .before .units-at .ensures .meets) (c .before .e2 .given .1)); laid = tt; told = tt }
+    record { meets = simp (asked viewField (g .meets) (c .before .before .before .before .before .n .given .1), asked viewIndex (c .before .before .before .units-at .ensures .meets) (c .before .e2 .given .1)); laid = tt; rises-is = tt }
 
 returns-3 : tie.Need-returns-3
 unfolding tableAt
@@ -56,7 +56,7 @@ returns-3 c =
     record {
       meets = c .grids-at .ensures .meets ∙ simp (asked viewField (g .meets) (c .before .before .before .before .before .before .n .given .1), asked viewIndex (c .before .before .before .before .units-at .ensures .meets) (c .before .before .after .given .1));
       laid = c .grids-at .ensures .laid;
-      told = c .grids-at .ensures .told;
+      rises-is = c .grids-at .ensures .rises-is;
     }
 
 pub table-at-spec : {M : Type 1} → statement M
