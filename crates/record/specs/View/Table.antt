@@ -121,6 +121,7 @@ pub record TableRises (s : List ℕ) (t : Layout) : Type 0 where
   pub costs-rise : RisesIs s (unitsOf s (layoutOf t)) (t .costs)
   pub values-rise : RisesIs s (unitsOf s (layoutOf t)) (t .values)
 
+-- those of a layout that was found
 abbrev pub TableRisesIn : List ℕ → LayoutReply → Type 0
 TableRisesIn s (LayoutReply.Refused e) = Unit {0}
 TableRisesIn s (LayoutReply.Got t) = TableRises s t
