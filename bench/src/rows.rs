@@ -97,7 +97,7 @@ impl Bench {
         self.row(name, &steps, times);
     }
 
-    /// What the form of the table search costs by itself: the requirements name an array of 128 sums of 64 bits, filled before
+    /// What the form of the table search costs by itself: the requirements name an array of 128 sums of 32 bits, filled before
     /// each step. The last step needs no search.
     fn filling(&self) {
         self.heading("The form of the table search by itself (as library: only its array filled before each step)");
@@ -233,7 +233,7 @@ fn keep_plan(program: &Program, deal: &Deal, areas: &mut Areas, call: impl Fn(&P
 
 fn fill_sums(steps: i64) {
     for _ in 0..steps {
-        black_box(&mut [u64::MAX; 128]);
+        black_box(&mut [u32::MAX; 128]);
     }
 }
 

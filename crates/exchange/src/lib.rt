@@ -1,6 +1,6 @@
 // The numbers of a deal, the answers of planning, the bounds of a place, and the test of a state.
 ghost use mathlib.Core.Path.{_≡_};
-ghost use Prim.Native.Nat.{min, _<_, _^_};
+ghost use Prim.Native.Nat.{min, _<_, _≤_, _^_};
 ghost use lib.IntN.{subℕ};
 ghost use Rattle.exchange.specs.Bounds.{upperOf, lowerOf};
 ghost use Rattle.exchange.specs.Rule.{coins};
@@ -77,15 +77,16 @@ pub fn most_paid(price: u32, cost_last: u32, cost_here: u32, supplier: u32) -> u
     price
 }
 
-// The least that is paid at a place: the greater of its lower bound and 0.
-pub fn least_paid(price: u32, value_last: u32, value_here: u32, buyer: u32) -> u64
+// The least that is paid at a place: the greater of its lower bound and 0. No place has a greater value than the last, so it is at most the price.
+pub fn least_paid(price: u32, value_last: u32, value_here: u32, buyer: u32) -> u32
+    requires { ⌜ «value_here» ≤ «value_last» ⌝ }
     ensures { λ r. ⌜ r ≡ coins (lowerOf price «value_last» «value_here» buyer) ⌝ }
 {
     let bound = lower(price, value_last, value_here, buyer);
     if bound < 0 {
         return 0;
     }
-    bound as u64
+    bound as u32
 }
 
 // Whether the state (place, paid) is safe, by the bounds of its place.

@@ -7,8 +7,8 @@ use native.Mathlib.Nat.{add-div-right, add-sub-cancel, le-refl, le-trans, lt-of-
 use native.Mathlib.Decide.{decLt}
 use native.Mathlib.Omega.{arith}
 use borrow.Author.Tests.{lt-ltb}
-use lib.ListN.{getD}
-use Rattle.grid.specs.Rows.{rowsOf, lessOne, largestBelow, rising}
+use lib.ListN.{length, getD}
+use Rattle.grid.specs.Rows.{rowsOf, lessOne, largestBelow, rising, LastLargest}
 use Rattle.grid.proofs.RowLaws.{rest-mul, rows-pos, rising-at}
 
 -- R rows on there is one unit more of the item which takes R rows a unit, if row r does not have all its units
@@ -71,5 +71,6 @@ module _ (us cells : List ℕ) (rises : rising us cells (rowsOf us) ≡ true) wh
       go nearer (no m) = let same : r ≡ rowsOf us - 1 = omega arith in rw same (le-refl _)
 
 -- no cell is above that of the last row
-pub last-largest : (us cells : List ℕ) → rising us cells (rowsOf us) ≡ true → (r : ℕ) → r < rowsOf us → getD cells r 0 ≤ getD cells (rowsOf us - 1) 0
-last-largest us cells rises r h = last-within us cells rises (rowsOf us) r h (omega arith)
+pub last-largest : (us cells : List ℕ) → length cells ≡ rowsOf us → rising us cells (rowsOf us) ≡ true → LastLargest cells
+last-largest us cells all rises =
+    record { some = rw all (rows-pos us); last = rw all (λ r h. last-within us cells rises (rowsOf us) r h (omega arith)) }

@@ -1,9 +1,9 @@
 -- The rows of a table: numbers in mixed radix, the last item running fastest.
 use mathlib.Core.Bool.{Bool, true, cond, _&&_}
 use mathlib.Core.List.{List, [], _∷_}
-use Prim.Native.Nat.{ℕ, zero, suc, _+_, _-_, _*_, _/_, _%_, max}
+use Prim.Native.Nat.{ℕ, zero, suc, _+_, _-_, _*_, _/_, _%_, _≤_, _<_, max}
 use lib.Dec.{ltb, leb}
-use lib.ListN.{getD}
+use lib.ListN.{length, getD}
 
 -- the number of rows, the product of (units + 1), where these are the units of each item
 unfoldable pub rowsOf : List ℕ → ℕ
@@ -23,3 +23,8 @@ largestBelow (u ∷ us) cells r = max (largestBelow us cells r) (lessOne u (rows
 unfoldable pub rising : List ℕ → List ℕ → ℕ → Bool
 rising us cells zero = true
 rising us cells (suc r) = rising us cells r && leb (largestBelow us cells r) (getD cells r 0)
+
+-- there is a cell, and none is above the last one
+pub record LastLargest (cells : List ℕ) : Type 0 where
+  pub some : 0 < length cells
+  pub last : (r : ℕ) → r < length cells → getD cells r 0 ≤ getD cells (length cells - 1) 0

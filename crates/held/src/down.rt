@@ -8,7 +8,7 @@ ghost use Rattle.held.specs.Down.{Open, CapsRise, Down, OneLess};
 use super::words::low_byte;
 
 // The row with one unit less of the last item of a word, plus 1; 0 where there is no unit to take away or that row cannot pay.
-fn one_less(caps: &[u64; 128], row: usize, stride: usize, word: u32, need: u64) -> usize
+fn one_less(caps: &[u32; 128], row: usize, stride: usize, word: u32, need: u32) -> usize
     requires { ⌜ (0 < word % 256 → stride ≤ row) × (0 < word % 256 → row - stride < 128) ⌝ }
     ensures { λ k. ⌜ OneLess (now (caps .entry)) row stride (word % 256) need k ⌝ }
 {
@@ -36,12 +36,12 @@ fn put_back(row: usize, stride: usize, less: u32, more: u32) -> usize
 pub fn next_down(
     units: &[u16],
     strides: &[usize; 4],
-    caps: &[u64; 128],
+    caps: &[u32; 128],
     a: usize,
     b: usize,
     less: u32,
     more: u32,
-    need: u64,
+    need: u32,
 ) -> usize
     requires { ⌜ Small (now units) × Strides (now units) (now strides) × (less ≡ packed (now units) a) × (more ≡ packed (now units) b) × CapsRise (now units) (now caps) × (a < rowsOf (now units)) × (b < rowsOf (now units)) × Open (now units) (now caps) b need a ⌝ }
     ensures { λ r. ⌜ Down (now (units .entry)) (now (caps .entry)) b need a r ⌝ }

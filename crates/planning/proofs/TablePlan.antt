@@ -7,7 +7,8 @@ use native.Mathlib.Omega.{arith}
 use lib.ListN.{length, drop, replicate, take}
 use borrow.Author.Tests.{leb-true, ltb-true, le-leb, lt-ltb, eq-eqb}
 use Rattle.grid.specs.Rows.{rowsOf}
-use Rattle.contract.specs.Valid.{Valid, inRange, unitsInRange, rises, sum}
+use Rattle.contract.specs.Contract.{limit}
+use Rattle.contract.specs.Valid.{Valid, inRange, unitsInRange, withinLimit, rises, sum}
 use Rattle.contract.specs.declared.Form.the-variants.{Table}
 use Rattle.exchange.specs.Deal.{State, Safe, Plan}
 use Rattle.exchange.specs.Fewest.{Earliest}
@@ -62,6 +63,10 @@ module _ (s : Sides) (us cs vs : List ℕ) (v : Valid (contractWith Table s us c
   pub few-items : length us ≤ 4
   unfolding inRange
   few-items = let (((_, high), _), _) = simp and-eq-true-iff at (v .range) in leb-true _ _ high
+
+  pub price-within : s .price ≤ limit
+  unfolding withinLimit
+  price-within = let ((((price, _), _), _), _) = simp and-eq-true-iff at (v .within) in leb-true _ _ price
 
   all-some : 0 < foldr _+_ 0 us
   unfolding inRange

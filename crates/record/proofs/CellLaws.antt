@@ -10,10 +10,9 @@ use lib.ListN.{length, drop, replicate, length-drop}
 use lib.Seq.{length-take-le, take-length}
 use Rattle.area.specs.Entries.{entries, column}
 use Rattle.area.proofs.Laws.{entries-length}
-use Rattle.grid.specs.Rows.{rowsOf, rising}
+use Rattle.grid.specs.Rows.{rowsOf, rising, LastLargest}
 use Rattle.grid.specs.Map.{standing}
 use Rattle.grid.specs.Cells.{Sized, Fills}
-use Rattle.grid.proofs.RowLaws.{rows-pos}
 use Rattle.grid.proofs.LastLaws.{last-largest}
 use Rattle.grid.proofs.FillLaws.{all-filled}
 use Rattle.contract.specs.Res.{refused, ok, test}
@@ -24,7 +23,7 @@ use Rattle.contract.specs.Table.{Layout, Grid, part, unitsOf, cellsOf, tableCon
 use Rattle.contract.specs.declared.Form.the-variants.{Table}
 use Rattle.contract.proofs.ParsedValid.TableValid.{cells-length}
 use Rattle.record.specs.View.Answer.{acceptance}
-use Rattle.record.specs.View.Table.{Items, Laid, LastLargest, Within, RisesIs, Filled, gridOf, givenIn, givenRise, gridCells}
+use Rattle.record.specs.View.Table.{Items, Laid, Within, RisesIs, Filled, gridOf, givenIn, givenRise, gridCells}
 use Rattle.record.specs.declared.table.Grid as code
 use Rattle.record.specs.declared.Reply.{Reply}
 use Rattle.record.proofs.TableLaws.{column-bytes}
@@ -51,9 +50,7 @@ given-all us gs e =
     (eqb-true _ _ (both .0), both .1)
 
 pub given-last : (us gs : List ℕ) → givenRise us gs ≡ true → LastLargest gs
-given-last us gs e =
-    let all = given-all us gs e in
-    record { some = rw (all .0) (rows-pos us); last = rw (all .0) (last-largest us gs (all .1)) }
+given-last us gs e = let all = given-all us gs e in last-largest us gs (all .0) (all .1)
 
 -- then the given cells are the cells of the grid
 pub given-fills : {s us before : List ℕ} (g : code.Grid) → Within s (length before) (gridOf g) → Sized us before → RisesIs s us g → g .rises ≡ true

@@ -7,10 +7,10 @@ ghost use lib.Dec.{leb};
 ghost use lib.ListN.{length, drop, replicate};
 ghost use Rattle.area.specs.Entries.{column, entries};
 ghost use Rattle.grid.specs.Map.{bitCount};
+ghost use Rattle.grid.specs.Rows.{LastLargest};
 ghost use Rattle.contract.specs.Contract.{limit};
 ghost use Rattle.contract.specs.Table.{allWithin};
 ghost use Rattle.record.specs.View.Spaced.{Spaced};
-ghost use Rattle.record.specs.View.Table.{LastLargest};
 use super::field::LIMIT;
 use super::field::number;
 

@@ -1,15 +1,17 @@
 -- Planning a table: what the parts of the search make of the promise. Assumes nothing.
 use mathlib.Core.Path.{_≡_, refl, sym, ap, _∙_}
-use mathlib.Core.Bool.{true, false, cond, false≢true}
+use mathlib.Core.Bool.{true, false, false≢true}
 use mathlib.Core.List.{List, map}
-use Prim.Native.Nat.{ℕ, _-_, _^_, _≤_, _<_}
+use Prim.Native.Nat.{ℕ, _-_, _≤_, _<_}
 use native.Mathlib.Decide.{decLt}
 use native.Mathlib.Omega.{arith}
 use lib.ListN.{length, getD, length-map}
 use Rattle.area.specs.Entries.{Cleared}
 use Rattle.area.proofs.FilledLaws.{filled}
-use Rattle.grid.specs.Rows.{rowsOf}
+use Rattle.grid.specs.Rows.{rowsOf, LastLargest}
 use Rattle.grid.specs.Units.{RowUnits}
+use Rattle.grid.proofs.LastLaws.{last-largest}
+use Rattle.contract.specs.Contract.{limit}
 use Rattle.exchange.specs.Deal.{State, Plan, start}
 use Rattle.exchange.specs.Work.{Work, Lawful}
 use Rattle.exchange.specs.Forms.{table}
@@ -22,25 +24,25 @@ use Rattle.exchange.proofs.TablePlan.{table-counted, table-earliest}
 use Rattle.exchange.proofs.TablePlan.Count.{count-plan}
 use Rattle.exchange.proofs.TablePlan.Forward.{forwards-length}
 use Rattle.search.specs.declared.Terms.{Terms}
-use Rattle.search.specs.Promise.{suits, Rise, Success}
+use Rattle.search.specs.Promise.{Rise, Success}
 use Rattle.search.specs.Layers.{mark, working, rowsWork, Caps, Floors, Searchable, Counted, Walked, Room, CanWalk, startBounds, Fitted, Found}
 use Rattle.search.proofs.AlikeLaws.{Alike, count-alike, forwards-alike}
-use Rattle.search.proofs.SuitLaws.{fit, some-units, start↔, units-few}
+use Rattle.search.proofs.SuitLaws.{Suits, some-units, start↔, units-few}
 
 -- a table that suits
-pub fitted : {t : Terms} {us costs values places sums : List ℕ} (work : List ℕ) {n : ℕ} → n ≡ cond (suits us costs values places sums work) (mostSteps us) 0
-    → (n ≡ 0 → ⊥) → t .rows ≡ length costs → Rise us costs values → length us ≤ 4 → Fitted t us costs values n places sums
-fitted {t} {us} {costs} {values} {places} {sums} work {n} e some rows rise items =
-    let f = fit us costs values places sums work n e some in
-    let r : t .rows ≡ rowsOf us = rows ∙ f .0 .costs-all in
+pub fitted : {t : Terms} {us costs values places sums work : List ℕ} {n : ℕ} → Suits us costs values places sums work → n ≡ mostSteps us
+    → t .rows ≡ length costs → Rise us costs values → length us ≤ 4 → t .sides .price ≤ limit → Fitted t us costs values n places sums
+fitted {t} {us} {costs} s e rows rise items within =
+    let r : t .rows ≡ rowsOf us = rows ∙ s .costs-all in
     record {
-      good = record { rows-are = r; some = rw r (f .0 .some); few = rw r (f .0 .few) };
-      small = record { items = items; rows = f .0 .few };
-      costs-all = f .0 .costs-all;
-      values-all = f .0 .values-all;
+      within = within;
+      good = record { rows-are = r; some = rw r (s .some); few = rw r (s .few) };
+      small = record { items = items; rows = s .few };
+      costs-all = s .costs-all;
+      values-all = s .values-all;
       rise = rise;
-      early = omega (arith, f .1, units-few us, f .0 .few);
-      room = record { places-room = omega (arith, f .0 .places-room, f .1); sums-room = omega (arith, f .0 .sums-room, f .1) };
+      early = omega (arith, e, units-few us, s .few);
+      room = record { places-room = omega (arith, s .places-room, e); sums-room = omega (arith, s .sums-room, e) };
     }
 
 -- ---- the search by the arrays of the rows
@@ -62,6 +64,13 @@ module _ {w : Work} {most k : ℕ} {reached firsts floors places sums : List ℕ
       record { count-is = c .count-is; written = λ _. walked; places-kept = λ m. absurd (omega arith); sums-kept = λ m. absurd (omega arith) }
 
 module _ {t : Terms} {us costs values places sums : List ℕ} {most : ℕ} (f : Fitted t us costs values most places sums) where
+  -- no price reaches the mark
+  high : t .sides .price < mark
+  high = omega (arith, f .within)
+
+  pub values-last : LastLargest values
+  values-last = last-largest us values (f .values-all) (rw (← f .values-all) (f .rise .values-rise))
+
   law : Lawful (working t us costs values)
   law = lawful _ (table-rising (t .sides) us costs values (f .costs-all) (f .values-all) (f .rise .costs-rise) (f .rise .values-rise))
 
@@ -99,13 +108,12 @@ module _ {t : Terms} {us costs values places sums : List ℕ} {most : ℕ} (f : 
         price a (yes l) = rw (cap-is a (omega arith)) (law .cap-price a)
         price a (no n) = rw (cs .rest a (omega arith)) (omega arith)
 
-    pub searchable : {held : List ℕ} → RowUnits us held (rowsOf us) → t .sides .price < 2 ^ 32 → Searchable t us held caps floors
-    searchable u narrow = record { good = f .good; small = f .small; units-are = u; narrow = narrow; high = omega arith; lawful = rows-lawful }
+    pub searchable : {held : List ℕ} → RowUnits us held (rowsOf us) → Searchable t us held caps floors
+    searchable u = record { good = f .good; small = f .small; units-are = u; high = high; lawful = rows-lawful }
 
     -- what is found by the arrays is found of the table
-    pub found-same : t .sides .price < mark → {k : ℕ} {places′ sums′ : List ℕ} → Found w most k places places′ sums sums′
-        → Found (working t us costs values) most k places places′ sums sums′
-    found-same high {k} {places′} {sums′} h =
+    pub found-same : {k : ℕ} {places′ sums′ : List ℕ} → Found w most k places places′ sums sums′ → Found (working t us costs values) most k places places′ sums sums′
+    found-same {k} {places′} {sums′} h =
         record {
           count-is = h .count-is ∙ count-alike alike mark most;
           written = λ l. record { places-are = rw (← same l) (h .written l .places-are); sums-are = rw (← same l) (h .written l .sums-are) };
@@ -137,9 +145,9 @@ module _ {t : Terms} {us costs values places sums : List ℕ} {most : ℕ} (f : 
         omega (arith, q .1, all, counts)
 
     -- the plan that the areas hold
-    pub planned-success : t .sides .price < mark → safeTest 0 (startBounds t costs values) (t .sides .price) ≡ true → k ≤ most → {places₂ sums₂ : List ℕ}
+    pub planned-success : safeTest 0 (startBounds t costs values) (t .sides .price) ≡ true → k ≤ most → {places₂ sums₂ : List ℕ}
         → Cleared 2 places′ places₂ k → Cleared 4 sums′ sums₂ k → Success (table (t .sides) us costs values) k places sums places₂ sums₂
-    planned-success high safe l {places₂} {sums₂} cp cz =
+    planned-success safe l {places₂} {sums₂} cp cz =
         let wp = found .written l .places-are in
         let ws = found .written l .sums-are in
         record {

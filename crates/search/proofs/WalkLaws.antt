@@ -2,7 +2,7 @@
 use mathlib.Core.Path.{_≡_, refl, sym, ap, subst, _∙_}
 use mathlib.Core.Bool.{Bool, true, false, _&&_}
 use mathlib.Core.List.{List, [], _∷_, _++_, map, append-nil, append-assoc}
-use Prim.Native.Nat.{ℕ, zero, suc, _+_, _-_, _≤_, _<_, _^_}
+use Prim.Native.Nat.{ℕ, zero, suc, _+_, _-_, _≤_, _<_}
 use native.Mathlib.Nat.{add-zero, zero-add}
 use native.Mathlib.Numerals.{add-one}
 use native.Mathlib.Omega.{arith}
@@ -147,10 +147,10 @@ module _ {t : Terms} {us held caps floors : List ℕ} (g : Searchable t us held 
 
   module _ {steps : ℕ} {places₀ places sums₀ sums : List ℕ} {k : ℕ} (h : Walking w steps places₀ places sums₀ sums (suc m) k a paid)
       (places-room : k < length (entries 2 places₀)) (sums-room : k < length (entries 4 sums₀)) where
-    pub walking-turn : {b pay : ℕ} {places′ sums′ : List ℕ} → b ≡ firstRow held floors needs (getD caps a 0) a paid (t .rows) a → pay ≡ getD caps a 0
-        → Stored 2 places places′ k b → Stored 4 sums sums′ k pay → Walking w steps places₀ places′ sums₀ sums′ m (k + 1) b pay
+    pub walking-turn : {b : ℕ} {places′ sums′ : List ℕ} → b ≡ firstRow held floors needs (getD caps a 0) a paid (t .rows) a
+        → Stored 2 places places′ k b → Stored 4 sums sums′ k (getD caps a 0) → Walking w steps places₀ places′ sums₀ sums′ m (k + 1) b (getD caps a 0)
     unfolding forwards forward
-    walking-turn {b} {pay} {places′} {sums′} e f p q =
+    walking-turn {b} {places′} {sums′} e p q =
         record {
           front = h .front ++ u ∷ [];
           whole = rw (append-assoc (h .front) (u ∷ []) (forwards w mark m u)) (next ∙ h .whole);
@@ -166,10 +166,10 @@ module _ {t : Terms} {us held caps floors : List ℕ} (g : Searchable t us held 
         s = record { place = a; paid = paid }
 
         u : State
-        u = record { place = b; paid = pay }
+        u = record { place = b; paid = getD caps a 0 }
 
         one : u ≡ forward w mark m s
-        one = state-eq (e ∙ row-forward) f
+        one = state-eq (e ∙ row-forward) refl
 
         next : (h .front ++ u ∷ forwards w mark m u) ≡ (h .front ++ forwards w mark (suc m) s)
         next = rw one
@@ -204,14 +204,11 @@ module _ {t : Terms} {us held caps floors reached firsts : List ℕ} {steps : �
     pub going-in : a < t .rows
     going-in = omega (arith, h .walking .in-deal, g .good .some)
 
-    -- the cap of a row has 32 bits
-    pub going-pays : getD caps a 0 < 2 ^ 32
-    going-pays = omega (arith, g .lawful .cap-price a, g .narrow)
-
-    pub going-on : {b pay : ℕ} {places′ sums′ : List ℕ} → 0 < left
-        → b ≡ firstRow held floors (needRead reached firsts floors (left - 1)) (getD caps a 0) a paid (t .rows) a → pay ≡ getD caps a 0
-        → Stored 2 places places′ k b → Stored 4 sums sums′ k pay → Going (rowsWork t us caps floors) steps places₀ places′ sums₀ sums′ (left - 1) (k + 1) b pay
-    going-on more e f x y =
+    pub going-on : {b : ℕ} {places′ sums′ : List ℕ} → 0 < left
+        → b ≡ firstRow held floors (needRead reached firsts floors (left - 1)) (getD caps a 0) a paid (t .rows) a
+        → Stored 2 places places′ k b → Stored 4 sums sums′ k (getD caps a 0)
+        → Going (rowsWork t us caps floors) steps places₀ places′ sums₀ sums′ (left - 1) (k + 1) b (getD caps a 0)
+    going-on more e x y =
         let one : left ≡ suc (left - 1) = omega arith in
         record {
           counts = omega (arith, h .counts);
@@ -221,7 +218,7 @@ module _ {t : Terms} {us held caps floors reached firsts : List ℕ} {steps : �
               walking-turn g (needRead reached firsts floors (left - 1)) (left - 1) a paid going-in
               (λ b l. can .reaches .says (left - 1) b (omega (arith, h .counts)) l)
               (subst (λ (z : ℕ). Walking (rowsWork t us caps floors) steps places₀ places sums₀ sums z k a paid) one (h .walking))
-              (omega (arith, can .room .places-room, h .counts)) (omega (arith, can .room .sums-room, h .counts)) e f x y;
+              (omega (arith, can .room .places-room, h .counts)) (omega (arith, can .room .sums-room, h .counts)) e x y;
         }
 
     pub going-done : left ≡ 0 → Walked (rowsWork t us caps floors) steps places₀ places sums₀ sums

@@ -3,13 +3,14 @@ use mathlib.Core.Path.{_≡_}
 use mathlib.Core.Bool.{Bool, true, false, cond, _&&_}
 use mathlib.Core.Logic.{_⊎_}
 use mathlib.Core.List.{List, map}
-use Prim.Native.Nat.{ℕ, zero, suc, min, _+_, _-_, _^_, _≤_, _<_}
+use Prim.Native.Nat.{ℕ, zero, suc, min, _+_, _-_, _≤_, _<_}
 use lib.Dec.{T, leb, ltb, eqb}
 use lib.ListN.{getD, set, length, take, replicate}
 use Rattle.area.specs.Entries.{entries, remainder}
 use Rattle.grid.specs.Rows.{rowsOf}
 use Rattle.grid.specs.Units.{Small, RowUnits}
 use Rattle.grid.specs.Below.{Strides}
+use Rattle.contract.specs.Contract.{limit}
 use Rattle.exchange.specs.Deal.{start}
 use Rattle.exchange.specs.Work.{Work, workOf, Lawful}
 use Rattle.exchange.specs.Bounds.{upperOf, lowerOf}
@@ -25,7 +26,7 @@ use Rattle.search.specs.Promise.{Rise}
 
 -- the sum of a row from which the end is not reached, above every price
 abbrev pub mark : ℕ
-mark = 18446744073709551615
+mark = 4294967295
 
 -- the working form of a table
 abbrev pub working : Terms → List ℕ → List ℕ → List ℕ → Work
@@ -78,12 +79,11 @@ rowsWork t us caps floors =
       holds = holdsRow us;
     }
 
--- what the search asks: a table, the units of its rows, a price of 32 bits and below the mark, and caps and floors that rise
+-- what the search asks: a table, the units of its rows, a price below the mark, and caps and floors that rise
 pub record Searchable (t : Terms) (us held caps floors : List ℕ) : Type 0 where
   pub good : Table t us
   pub small : Small us
   pub units-are : RowUnits us held (rowsOf us)
-  pub narrow : t .sides .price < 2 ^ 32
   pub high : t .sides .price < mark
   pub lawful : Lawful (rowsWork t us caps floors)
 
@@ -335,8 +335,9 @@ pub record CanWalk (w : Work) (reached firsts floors : List ℕ) (steps : ℕ) (
 
 -- ---- the whole search
 
--- what it asks: a table whose cells rise, a cost and a value for each row, and room for the most steps
+-- what it asks: a price within the limit, a table whose cells rise, a cost and a value for each row, and room for the most steps
 pub record Fitted (t : Terms) (us costs values : List ℕ) (most : ℕ) (places sums : List ℕ) : Type 0 where
+  pub within : t .sides .price ≤ limit
   pub good : Table t us
   pub small : Small us
   pub costs-all : length costs ≡ rowsOf us

@@ -8,7 +8,6 @@ ghost use Rattle.grid.specs.Rows.{rowsOf};
 ghost use Rattle.search.specs.Layers.{mark, never, rowsWork, Searchable, notes, front, offerTo, Offers, Offered, Offerers, Listing, RowListed, CanOffer, Kept, Noting, CanStep, Stepped, Arrives, Counted};
 use super::Terms;
 use super::UNREACHED;
-use super::limits::wide32;
 
 // No step reaches the row.
 const NEVER: u16 = 65535;
@@ -41,14 +40,14 @@ fn wide8(x: u8) -> usize
     x as usize
 }
 
-fn lesser(a: u64, b: u64) -> u64
+fn lesser(a: u32, b: u32) -> u32
     ensures { λ r. ⌜ r ≡ min a b ⌝ }
 {
     if a < b { a } else { b }
 }
 
 // What row b, the i-th that was reached, needs.
-fn need_of(floors: &[u64; 128], firsts: &[u64; 128], fresh: usize, i: usize, b: usize) -> u64
+fn need_of(floors: &[u32; 128], firsts: &[u32; 128], fresh: usize, i: usize, b: usize) -> u32
     requires { ⌜ b < 128 ⌝ }
     ensures { λ r. ⌜ r ≡ cond (ltb i fresh) (getD (now (floors .entry)) b 0) (getD (now (firsts .entry)) b 0) ⌝ }
 {
@@ -60,7 +59,7 @@ fn need_of(floors: &[u64; 128], firsts: &[u64; 128], fresh: usize, i: usize, b: 
 
 // Lists row a if it had no offer in this step. It is written to the list in any case, which has a place more for that: no one reads behind the
 // listed rows, and a test would be hard to predict. The answer is the length of the list.
-fn list_row(list: &mut [u8; 129], n: usize, a: usize, before: u64) -> usize
+fn list_row(list: &mut [u8; 129], n: usize, a: usize, before: u32) -> usize
     requires { ⌜ (a < 128) × (n ≤ 128) ⌝ }
     ensures { λ r. ⌜ RowListed (now (list .entry)) n a before (now (list .exit)) r ⌝ }
 {
@@ -74,11 +73,11 @@ fn offer(
     units: &[u16],
     strides: &[usize; 4],
     held: &[u32; 128],
-    caps: &[u64; 128],
+    caps: &[u32; 128],
     b: usize,
-    need: u64,
-    floor: u64,
-    next: &mut [u64; 128],
+    need: u32,
+    floor: u32,
+    next: &mut [u32; 128],
     list: &mut [u8; 129],
     n: usize,
 ) -> usize
@@ -103,12 +102,12 @@ fn offer_all(
     units: &[u16],
     strides: &[usize; 4],
     held: &[u32; 128],
-    caps: &[u64; 128],
-    floors: &[u64; 128],
-    firsts: &[u64; 128],
+    caps: &[u32; 128],
+    floors: &[u32; 128],
+    firsts: &[u32; 128],
     found: &[u8; 128],
     v: Window,
-    next: &mut [u64; 128],
+    next: &mut [u32; 128],
     list: &mut [u8; 129],
 ) -> usize
     requires { ⌜ CanOffer (now units) (now strides) (now held) (now caps) × Offerers (now caps) (front (now floors) (now firsts) (now found) v) (rowsOf (now units)) × (now next ≡ replicate 128 mark) × (length (now list) ≡ 129) ⌝ }
@@ -140,13 +139,13 @@ fn offer_all(
 // the `end` rows that were. The answer is how many are reached then. With one step more such a row needs its floor, since that step can stay
 // there and pay, and it never needs less: so it takes no later offer.
 fn note(
-    next: &[u64; 128],
+    next: &[u32; 128],
     list: &[u8; 129],
     n: usize,
     step: u16,
     end: usize,
     reached: &mut [u16; 128],
-    firsts: &mut [u64; 128],
+    firsts: &mut [u32; 128],
     found: &mut [u8; 128],
 ) -> usize
     requires { ⌜ Kept (notes (now reached) (now firsts) (now found)) end × (n ≤ 128) × ((i : ℕ) → i < n → getD (now list) i 0 < 128) × (step < never) ⌝ }
@@ -169,13 +168,13 @@ fn note(
 }
 
 // The sums of no step: the price at the last row.
-pub(crate) fn first_sums(t: Terms) -> [u64; 128]
+pub(crate) fn first_sums(t: Terms) -> [u32; 128]
     requires { ⌜ (1 < t .rows) × (t .rows ≤ 128) ⌝ }
     ensures { λ r. ⌜ r ≡ set (replicate 128 mark) (t .rows - 1) (t .sides .price) ⌝ }
 {
     let mut sums = [UNREACHED; 128];
     let last = t.rows - 1;
-    sums[last] = wide32(t.sides.price);
+    sums[last] = t.sides.price;
     sums
 }
 
@@ -206,12 +205,12 @@ fn step(
     units: &[u16],
     strides: &[usize; 4],
     held: &[u32; 128],
-    caps: &[u64; 128],
-    floors: &[u64; 128],
+    caps: &[u32; 128],
+    floors: &[u32; 128],
     v: Window,
     list: &mut [u8; 129],
     reached: &mut [u16; 128],
-    firsts: &mut [u64; 128],
+    firsts: &mut [u32; 128],
     found: &mut [u8; 128],
 ) -> Window
     requires { ⌜ CanStep (now units) (now strides) (now held) (now caps) (now floors) (now list) (notes (now reached) (now firsts) (now found)) v ⌝ }
@@ -242,9 +241,9 @@ fn step(
 
 // Whether a row of the window ends the search one step on: row 0 can pay what it needs, and its floor is 0. Every row holds the units of row 0.
 fn arrives(
-    caps: &[u64; 128],
-    floors: &[u64; 128],
-    firsts: &[u64; 128],
+    caps: &[u32; 128],
+    floors: &[u32; 128],
+    firsts: &[u32; 128],
     found: &[u8; 128],
     v: Window,
 ) -> bool
@@ -271,11 +270,11 @@ pub(crate) fn count_steps(
     t: Terms,
     units: &[u16],
     held: &[u32; 128],
-    caps: &[u64; 128],
-    floors: &[u64; 128],
+    caps: &[u32; 128],
+    floors: &[u32; 128],
     most: usize,
     reached: &mut [u16; 128],
-    firsts: &mut [u64; 128],
+    firsts: &mut [u32; 128],
 ) -> usize
     requires { ⌜ Searchable t (now units) (now held) (now caps) (now floors) × (most < never) × (now reached ≡ set (replicate 128 never) (t .rows - 1) 0) × (now firsts ≡ set (replicate 128 mark) (t .rows - 1) (t .sides .price)) ⌝ }
     ensures { λ r. ⌜ Counted (rowsWork t (now (units .entry)) (now (caps .entry)) (now (floors .entry))) most (now (reached .exit)) (now (firsts .exit)) (now (floors .entry)) r ⌝ }

@@ -5,6 +5,7 @@ ghost use mathlib.Core.List.{foldr};
 ghost use Prim.Native.Nat.{_+_, _<_, _≤_};
 ghost use lib.ListN.{length};
 ghost use Rattle.grid.specs.Rows.{rowsOf};
+ghost use Rattle.contract.specs.Contract.{limit};
 ghost use Rattle.exchange.specs.Search.{mostSteps};
 ghost use Rattle.exchange.specs.Test.{safeTest};
 ghost use Rattle.search.specs.Promise.{Plans, suits, Rise};
@@ -30,7 +31,7 @@ struct Terms {
 
 // Above every price: the sum of a row from which the end is not reached. All its bytes are the same, so that an array is filled with it as fast as
 // with zeros.
-const UNREACHED: u64 = 18446744073709551615;
+const UNREACHED: u32 = 4294967295;
 
 fn wide16(x: u16) -> usize
     ensures { λ r. ⌜ (r ≡ x) × (r < 65536) ⌝ }
@@ -103,8 +104,8 @@ fn find_plan(
     t: Terms,
     units: &[u16],
     held: &[u32; 128],
-    caps: &[u64; 128],
-    floors: &[u64; 128],
+    caps: &[u32; 128],
+    floors: &[u32; 128],
     most: usize,
     places: &mut [u8],
     sums: &mut [u8],
@@ -146,9 +147,9 @@ fn search_rows(
     ensures { λ r. ⌜ Found (working t (now (units .entry)) (now (costs .entry)) (now (values .entry))) most r (now (places .entry)) (now (places .exit)) (now (sums .entry)) (now (sums .exit)) ⌝ }
 {
     let held = grid::all_units(units);
-    let mut caps = [0u64; 128];
+    let mut caps = [0u32; 128];
     all_caps(t, costs, &mut caps);
-    let mut floors = [0u64; 128];
+    let mut floors = [0u32; 128];
     all_floors(t, values, &mut floors);
     find_plan(t, units, &held, &caps, &floors, most, places, sums)
 }
@@ -163,7 +164,7 @@ pub fn plan(
     sums: &mut [u8],
     work: &mut [u8],
 ) -> Planned
-    requires { ⌜ Rise (now units) (now costs) (now values) × (length (now units) ≤ 4) ⌝ }
+    requires { ⌜ Rise (now units) (now costs) (now values) × (length (now units) ≤ 4) × (sides .price ≤ limit) ⌝ }
     ensures { λ r. ⌜ Plans sides (now (units .entry)) (now (costs .entry)) (now (values .entry)) r (now (places .entry)) (now (sums .entry)) (now (work .entry)) (now (places .exit)) (now (sums .exit)) (now (work .exit)) ⌝ }
 {
     let most = most_steps(units, costs, values, places, sums, work);

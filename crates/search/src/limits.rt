@@ -2,17 +2,12 @@
 ghost use mathlib.Core.Path.{_≡_};
 ghost use Prim.Native.Nat.{_<_, _≤_};
 ghost use lib.ListN.{length, replicate};
+ghost use Rattle.grid.specs.Rows.{LastLargest};
 ghost use Rattle.search.specs.Layers.{Caps, Floors};
 use super::Terms;
 
-pub(crate) fn wide32(x: u32) -> u64
-    ensures { λ r. ⌜ (r ≡ x) × (r < 4294967296) ⌝ }
-{
-    x as u64
-}
-
 // The caps of all rows.
-pub(crate) fn all_caps(t: Terms, costs: &[u32], caps: &mut [u64; 128])
+pub(crate) fn all_caps(t: Terms, costs: &[u32], caps: &mut [u32; 128])
     requires { ⌜ (0 < t .rows) × (t .rows ≤ 128) × (length (now costs) ≡ t .rows) × (now caps ≡ replicate 128 0) ⌝ }
     ensures { λ _. ⌜ Caps t (now (costs .entry)) (now (caps .exit)) (t .rows) ⌝ }
 {
@@ -22,14 +17,14 @@ pub(crate) fn all_caps(t: Terms, costs: &[u32], caps: &mut [u64; 128])
     let top = costs[rows - 1];
     let mut a: usize = 0;
     while a < rows {
-        caps[a] = wide32(exchange::most_paid(price, top, costs[a], supplier));
+        caps[a] = exchange::most_paid(price, top, costs[a], supplier);
         a += 1;
     }
 }
 
 // The floors of all rows.
-pub(crate) fn all_floors(t: Terms, values: &[u32], floors: &mut [u64; 128])
-    requires { ⌜ (0 < t .rows) × (t .rows ≤ 128) × (length (now values) ≡ t .rows) × (now floors ≡ replicate 128 0) ⌝ }
+pub(crate) fn all_floors(t: Terms, values: &[u32], floors: &mut [u32; 128])
+    requires { ⌜ LastLargest (now values) × (t .rows ≤ 128) × (length (now values) ≡ t .rows) × (now floors ≡ replicate 128 0) ⌝ }
     ensures { λ _. ⌜ Floors t (now (values .entry)) (now (floors .exit)) (t .rows) ⌝ }
 {
     let rows = t.rows;

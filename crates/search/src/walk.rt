@@ -1,24 +1,22 @@
 // Reads the plan forwards: what each row needs is known from the search.
 ghost use mathlib.Core.Path.{_≡_};
 ghost use mathlib.Core.Bool.{_&&_};
-ghost use Prim.Native.Nat.{_<_, _≤_, _^_};
+ghost use Prim.Native.Nat.{_<_, _≤_};
 ghost use lib.Dec.{leb};
-ghost use lib.ListN.{getD};
 ghost use Rattle.held.specs.Words.{holdsWord};
 ghost use Rattle.search.specs.Layers.{rowsWork, Searchable, needRead, firstRow, CanWalk, Walked};
 use super::Terms;
 use super::UNREACHED;
-use super::limits::wide32;
 use super::wide16;
 
 // What row b needs to end in j steps: nothing suffices before it is reached; then its first sum, and with more steps its floor.
 fn need_after(
     reached: &[u16; 128],
-    firsts: &[u64; 128],
-    floors: &[u64; 128],
+    firsts: &[u32; 128],
+    floors: &[u32; 128],
     j: usize,
     b: usize,
-) -> u64
+) -> u32
     requires { ⌜ b < 128 ⌝ }
     ensures { λ r. ⌜ r ≡ needRead (now (reached .entry)) (now (firsts .entry)) (now (floors .entry)) j b ⌝ }
 {
@@ -32,16 +30,8 @@ fn need_after(
     floors[b]
 }
 
-// The most that is paid at a row.
-fn cap_at(caps: &[u64; 128], a: usize) -> u32
-    requires { ⌜ (a < 128) × (getD (now caps) a 0 < 2 ^ 32) ⌝ }
-    ensures { λ r. ⌜ r ≡ getD (now (caps .entry)) a 0 ⌝ }
-{
-    caps[a] as u32
-}
-
 // Whether a row can be delivered at another with this sum paid, by the words of both. It is tested by the payment of the step before.
-fn deliverable(from: u32, to: u32, need: u64, cap: u64, floor: u64, paid: u64) -> bool
+fn deliverable(from: u32, to: u32, need: u32, cap: u32, floor: u32, paid: u32) -> bool
     ensures { λ r. ⌜ r ≡ (holdsWord 4 from to && leb need cap && leb floor paid) ⌝ }
 {
     if cap < need {
@@ -57,13 +47,13 @@ fn deliverable(from: u32, to: u32, need: u64, cap: u64, floor: u64, paid: u64) -
 fn next_row(
     rows: usize,
     held: &[u32; 128],
-    floors: &[u64; 128],
+    floors: &[u32; 128],
     reached: &[u16; 128],
-    firsts: &[u64; 128],
+    firsts: &[u32; 128],
     j: usize,
     a: usize,
-    cap: u64,
-    paid: u64,
+    cap: u32,
+    paid: u32,
 ) -> usize
     requires { ⌜ (rows ≤ 128) × (a < rows) ⌝ }
     ensures { λ r. ⌜ (r ≤ rows) × (r ≡ firstRow (now (held .entry)) (now (floors .entry)) (needRead (now (reached .entry)) (now (firsts .entry)) (now (floors .entry)) j) cap a paid rows a) ⌝ }
@@ -84,10 +74,10 @@ pub(crate) fn walk(
     t: Terms,
     units: &[u16],
     held: &[u32; 128],
-    caps: &[u64; 128],
-    floors: &[u64; 128],
+    caps: &[u32; 128],
+    floors: &[u32; 128],
     reached: &[u16; 128],
-    firsts: &[u64; 128],
+    firsts: &[u32; 128],
     steps: usize,
     places: &mut [u8],
     sums: &mut [u8],
@@ -98,14 +88,13 @@ pub(crate) fn walk(
     let mut left = steps;
     let mut k: usize = 0;
     let mut a: usize = 0;
-    let mut paid: u64 = 0;
+    let mut paid: u32 = 0;
     while 0 < left {
         left -= 1;
-        let pay = cap_at(caps, a);
-        let cap = wide32(pay);
+        let cap = caps[a];
         let b = next_row(t.rows, held, floors, reached, firsts, left, a, cap, paid);
         area::store_u16(places, k, b as u16);
-        area::store_u32(sums, k, pay);
+        area::store_u32(sums, k, cap);
         a = b;
         paid = cap;
         k += 1;

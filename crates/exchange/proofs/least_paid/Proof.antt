@@ -1,13 +1,17 @@
 -- `exchange::least_paid` meets its contract. Assumes nothing.
 use mathlib.Core.Path.{_≡_}
 use mathlib.Core.Bool.{true, false}
+use Prim.Native.Nat.{_≤_}
 use native.Mathlib.Omega.{arith}
 use borrow.Author.Needs.{needs}
 use lib.IntN.{pos, natAbs}
-use lib.Signed.{ltZ, mag}
+use lib.Signed.{ltZ}
 use mir.Syntax.{w64}
-use mir.Val.{SFits, toZ, ofZ}
+use mir.Val.{toZ, ofZ}
 use mir.Facts.{toZ-ofZ}
+use Rattle.exchange.specs.Rule.{coins}
+use Rattle.exchange.proofs.Bridge.{coins-low}
+use Rattle.exchange.proofs.BoundLaws.{low↔}
 use Rattle.exchange.proofs.CoinLaws.{coins-none, coins-some}
 use Rattle.exchange.proofs.least_paid.Statement.{statement}
 use Rattle.exchange.proofs.least_paid.Tie as tie
@@ -28,9 +32,10 @@ cast-result c =
     let k : toZ w64 (ofZ w64 z) ≡ z = toZ-ofZ (search needs) in
     let f : ltZ (toZ w64 (ofZ w64 z)) (pos 0) ≡ false = c .if1 .left in
     let s = coins-some z (rw k at f) in
-    let m : natAbs z ≡ mag z = s .2 in
-    let b : SFits w64 z = search needs in
-    rw k (s .0, record { fits = omega (arith, b .sfits) })
+    let n : natAbs z ≡ coins z = s .1 in
+    let a = c .before .before .args in
+    let l : coins z ≤ a .price = coins-low z (a .price) .0 (rw (c .before .lower .ensures) (low↔ (a .price) _ _ (a .buyer) (a .price) .1 (omega (arith, c .before .before .pre)))) in
+    rw k (s .0, record { fits = omega arith })
 
 returns-2 : tie.Need-returns-2
 returns-2 c =

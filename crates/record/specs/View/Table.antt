@@ -2,9 +2,9 @@
 use mathlib.Core.Path.{_≡_}
 use mathlib.Core.Bool.{Bool, cond, _&&_}
 use mathlib.Core.List.{List}
-use Prim.Native.Nat.{ℕ, _+_, _-_, _*_, _≤_, _<_}
+use Prim.Native.Nat.{ℕ, _+_, _-_, _*_, _≤_}
 use lib.Dec.{eqb}
-use lib.ListN.{length, getD}
+use lib.ListN.{length}
 use Rattle.area.specs.Entries.{entries}
 use Rattle.grid.specs.Rows.{rowsOf, rising}
 use Rattle.grid.specs.Units.{Small}
@@ -147,8 +147,3 @@ pub record Working (s : List ℕ) (h : Head) (t : Layout) (c v : List ℕ) : Typ
   pub rises-is : TableRises s t
   pub costs-long : length c ≡ t .rows
   pub values-long : length v ≡ t .rows
-
--- there is a cell, and none is above the last one
-pub record LastLargest (xs : List ℕ) : Type 0 where
-  pub some : 0 < length xs
-  pub last : (r : ℕ) → r < length xs → getD xs r 0 ≤ getD xs (length xs - 1) 0

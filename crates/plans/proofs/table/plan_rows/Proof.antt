@@ -4,7 +4,7 @@ use native.Mathlib.Omega.{arith}
 use lib.ListN.{replicate}
 use borrow.Author.Tests.{not-true, not-false}
 use Rattle.planning.proofs.Outcome.{room}
-use Rattle.planning.proofs.TablePlan.{few-items, cells-rise}
+use Rattle.planning.proofs.TablePlan.{few-items, price-within, cells-rise}
 use Rattle.along.proofs.RoomLaws.{stored-eight}
 use Rattle.plans.proofs.PlanLaws.{too-short, areas-short, work-short, all-room, table-work, table-plans, table-impossible, table-unfit}
 use borrow.Author.Needs.{needs}
@@ -51,7 +51,7 @@ returns-2 : tie.Need-returns-2
 returns-2 c = too-short _ _ (work-short _ _ _ _ (c .before .before .before .before .before .before .before .before .before .before .before .before .before .before .pre) _ (c .before .before .before .before .before .before .sum-units .ensures .0) _ _ _ _ _ (c .before .before .has-room .ensures) (c .if2 .taken) (not-false _ (c .before .if1 .left)))
 
 plan-requires : tie.Need-plan-requires
-plan-requires c κs = (cells-rise _ _ _ _ (c .before .before .before .before .before .before .before .before .before .before .before .before .before .before .before .before .before .pre), few-items _ _ _ _ (c .before .before .before .before .before .before .before .before .before .before .before .before .before .before .before .before .before .pre))
+plan-requires c κs = let pre = c .before .before .before .before .before .before .before .before .before .before .before .before .before .before .before .before .before .pre in (cells-rise _ _ _ _ pre, few-items _ _ _ _ pre, price-within _ _ _ _ pre)
 
 enum-known-n : tie.Need-enum-known-n
 enum-known-n c = search needs

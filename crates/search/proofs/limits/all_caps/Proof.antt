@@ -1,5 +1,5 @@
 use borrow.Author.Needs.{needs}
-use mathlib.Core.Path.{_≡_, subst, _∙_}
+use mathlib.Core.Path.{_≡_, subst}
 use Prim.Native.Nat.{_-_, _≤_}
 use native.Mathlib.Omega.{arith}
 use Rattle.search.specs.Layers.{capAt, Lists}
@@ -34,14 +34,11 @@ shared-slice-read-most-paid c = search needs
 most-paid-requires : tie.Need-most-paid-requires Inv-loop μ-loop
 most-paid-requires c κs = search needs
 
-wide32-requires : tie.Need-wide32-requires Inv-loop μ-loop
-wide32-requires c κs = search needs
-
 mul-caps : tie.Need-mul-caps Inv-loop μ-loop
 mul-caps c = search needs
 
 element-write-caps : tie.Need-element-write-caps Inv-loop μ-loop
-element-write-caps c = omega (arith, c .before .before .before .before .loop .inv .1 .long, c .before .before .before .loop-test .taken, c .before .before .before .before .before .before .before .pre .1)
+element-write-caps c = omega (arith, c .before .before .before .loop .inv .1 .long, c .before .before .loop-test .taken, c .before .before .before .before .before .before .pre .1)
 
 add-a : tie.Need-add-a Inv-loop μ-loop
 add-a c = search needs
@@ -50,7 +47,7 @@ loop-less : tie.Need-loop-less Inv-loop μ-loop
 loop-less c = search needs
 
 loop-again : tie.Need-loop-again Inv-loop μ-loop
-loop-again c = (omega arith, lists-more (c .before .before .before .before .loop .inv .1) (omega (arith, c .before .before .before .loop-test .taken, c .before .before .before .before .before .before .before .pre .1)) (c .wide32 .ensures .0 ∙ c .before .most-paid .ensures))
+loop-again c = (omega arith, lists-more (c .before .before .before .loop .inv .1) (omega (arith, c .before .before .loop-test .taken, c .before .before .before .before .before .before .pre .1)) (c .most-paid .ensures))
 
 returns : tie.Need-returns Inv-loop μ-loop
 returns c =
@@ -70,7 +67,6 @@ all-caps-spec =
     mul-most-paid
     shared-slice-read-most-paid
     most-paid-requires
-    wide32-requires
     mul-caps
     element-write-caps
     add-a

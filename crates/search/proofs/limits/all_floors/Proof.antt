@@ -32,7 +32,7 @@ shared-slice-read-least-paid : tie.Need-shared-slice-read-least-paid Inv-loop μ
 shared-slice-read-least-paid c = search needs
 
 least-paid-requires : tie.Need-least-paid-requires Inv-loop μ-loop
-least-paid-requires c κs = search needs
+least-paid-requires c κs = rw (c .before .before .before .before .before .pre .2) at (c .before .before .before .before .before .pre .0 .last) _ (c .before .loop-test .taken)
 
 mul-floors : tie.Need-mul-floors Inv-loop μ-loop
 mul-floors c = search needs
