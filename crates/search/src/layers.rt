@@ -6,11 +6,9 @@ ghost use lib.Dec.{ltb};
 ghost use lib.ListN.{length, getD, set, replicate};
 ghost use Rattle.grid.specs.Rows.{rowsOf};
 ghost use Rattle.search.specs.Layers.{mark, never, rowsWork, Searchable, notes, front, offerTo, Offers, Offered, Offerers, Listing, RowListed, CanOffer, Kept, Noting, CanStep, Stepped, Arrives, Counted};
+use super::NEVER;
 use super::Terms;
 use super::UNREACHED;
-
-// No step reaches the row.
-const NEVER: u16 = 65535;
 
 // How many steps are searched, and which rows can offer something new, by their places in the order in which rows are reached. From `from` on
 // stand those that were reached in the step before the last one and now need their floor, from `fresh` up to `end` those reached in the last
@@ -165,28 +163,6 @@ fn note(
         }
     }
     m
-}
-
-// The sums of no step: the price at the last row.
-pub(crate) fn first_sums(t: Terms) -> [u32; 128]
-    requires { ⌜ (1 < t .rows) × (t .rows ≤ 128) ⌝ }
-    ensures { λ r. ⌜ r ≡ set (replicate 128 mark) (t .rows - 1) (t .sides .price) ⌝ }
-{
-    let mut sums = [UNREACHED; 128];
-    let last = t.rows - 1;
-    sums[last] = t.sides.price;
-    sums
-}
-
-// The steps in which the rows are reached, before the first: the last row with none.
-pub(crate) fn first_reached(t: Terms) -> [u16; 128]
-    requires { ⌜ (1 < t .rows) × (t .rows ≤ 128) ⌝ }
-    ensures { λ r. ⌜ r ≡ set (replicate 128 never) (t .rows - 1) 0 ⌝ }
-{
-    let mut reached = [NEVER; 128];
-    let last = t.rows - 1;
-    reached[last] = 0;
-    reached
 }
 
 // The rows that are reached before the first step: the last row.

@@ -18,8 +18,6 @@ mod walk;
 use exchange::Planned;
 use exchange::Sides;
 use layers::count_steps;
-use layers::first_reached;
-use layers::first_sums;
 use limits::all_caps;
 use limits::all_floors;
 
@@ -32,6 +30,9 @@ struct Terms {
 // Above every price: the sum of a row from which the end is not reached. All its bytes are the same, so that an array is filled with it as fast as
 // with zeros.
 const UNREACHED: u32 = 4294967295;
+
+// No step reaches the row.
+const NEVER: u16 = 65535;
 
 fn wide16(x: u16) -> usize
     ensures { λ r. ⌜ (r ≡ x) × (r < 65536) ⌝ }
@@ -99,7 +100,7 @@ fn starts(t: Terms, costs: &[u32], values: &[u32]) -> bool
 }
 
 // Searches by the units, the caps and the floors of the rows: the fewest steps, and one more than the most where there is no plan. A plan with
-// so many steps is written; where there is none the areas stay.
+// so many steps is written; where there is none the areas stay. With no step the last row alone is reached, and needs the price.
 fn find_plan(
     t: Terms,
     units: &[u16],
@@ -113,9 +114,12 @@ fn find_plan(
     requires { ⌜ Searchable t (now units) (now held) (now caps) (now floors) × (most < never) × Room most (now places) (now sums) ⌝ }
     ensures { λ r. ⌜ Found (rowsWork t (now (units .entry)) (now (caps .entry)) (now (floors .entry))) most r (now (places .entry)) (now (places .exit)) (now (sums .entry)) (now (sums .exit)) ⌝ }
 {
-    let mut reached = first_reached(t);
-    let mut first = first_sums(t);
-    let n = count_steps(t, units, held, caps, floors, most, &mut reached, &mut first);
+    let last = t.rows - 1;
+    let mut reached = [NEVER; 128];
+    reached[last] = 0;
+    let mut firsts = [UNREACHED; 128];
+    firsts[last] = t.sides.price;
+    let n = count_steps(t, units, held, caps, floors, most, &mut reached, &mut firsts);
     if n <= most {
         walk::walk(
             t,
@@ -124,7 +128,7 @@ fn find_plan(
             caps,
             floors,
             &reached,
-            &first,
+            &firsts,
             n,
             places,
             sums,

@@ -3,17 +3,26 @@ use Rattle.search.proofs.PlanLaws.{can-walk, found-none, found-plan}
 use Rattle.search.proofs.find_plan.Statement.{statement}
 use Rattle.search.proofs.find_plan.Tie as tie
 
-first-reached-requires : tie.Need-first-reached-requires
-first-reached-requires c κs = search needs
+sub-last : tie.Need-sub-last
+sub-last c = search needs
 
-first-sums-requires : tie.Need-first-sums-requires
-first-sums-requires c κs = search needs
+mul-reached : tie.Need-mul-reached
+mul-reached c = search needs
+
+array-write-reached : tie.Need-array-write-reached
+array-write-reached c = search needs
+
+mul-firsts : tie.Need-mul-firsts
+mul-firsts c = search needs
+
+array-write-firsts : tie.Need-array-write-firsts
+array-write-firsts c = search needs
 
 count-steps-requires : tie.Need-count-steps-requires
 count-steps-requires c κs = search needs
 
 walk-requires : tie.Need-walk-requires
-walk-requires c κs = (c .before .before .before .before .before .before .before .before .before .before .before .before .before .pre .0, can-walk (c .before .before .before .before .before .count-steps .ensures) (c .before .before .before .before .before .before .before .before .before .before .before .before .before .pre .2) (c .before .before .before .before .if1 .taken))
+walk-requires c κs = (c .before .before .before .before .before .before .before .before .before .before .before .before .pre .0, can-walk (c .before .before .before .before .before .count-steps .ensures) (c .before .before .before .before .before .before .before .before .before .before .before .before .pre .2) (c .before .before .before .before .if1 .taken))
 
 same-length : tie.Need-same-length
 same-length c = search needs
@@ -31,8 +40,11 @@ pub find-plan-spec : {M : Type 1} → statement M
 find-plan-spec =
     tie.close
     (tie.spec
-    first-reached-requires
-    first-sums-requires
+    sub-last
+    mul-reached
+    array-write-reached
+    mul-firsts
+    array-write-firsts
     count-steps-requires
     walk-requires
     same-length
