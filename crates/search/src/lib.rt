@@ -119,7 +119,16 @@ fn find_plan(
     reached[last] = 0;
     let mut firsts = [UNREACHED; 128];
     firsts[last] = t.sides.price;
-    let n = count_steps(t, units, held, caps, floors, most, &mut reached, &mut firsts);
+    let n = count_steps(
+        t,
+        units,
+        held,
+        caps,
+        floors,
+        most,
+        &mut reached,
+        &mut firsts,
+    );
     if n <= most {
         walk::walk(
             t,
