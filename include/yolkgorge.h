@@ -14,8 +14,8 @@
  * the work area.
  *
  * Threads. The library has no state of its own: calls on different areas may run at the same time. Stack: a call needs
- * at most about 8 KiB (seen: 7,784 bytes, planning unit prices; a table 7,528), and 2 KiB more at the first call in a
- * program whose dynamic linker looks up memset and memcpy only then (seen: 9,976); give a thread 32 KiB.
+ * at most about 7 KiB (seen: 7,016 bytes, planning unit prices; 6,760 for a table), and some 2 KiB more at the first call
+ * in a program whose dynamic linker looks up memset and memcpy only then (seen: 9,208); give a thread 32 KiB.
  */
 #ifndef YOLKGORGE_H
 #define YOLKGORGE_H
