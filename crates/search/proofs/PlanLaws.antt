@@ -68,6 +68,7 @@ module _ {t : Terms} {us costs values places sums : List ℕ} {most : ℕ} (f : 
   high : t .sides .price < mark
   high = omega (arith, f .within)
 
+  -- no value is above the last one
   pub values-last : LastLargest values
   values-last = last-largest us values (f .values-all) (rw (← f .values-all) (f .rise .values-rise))
 

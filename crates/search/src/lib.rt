@@ -117,18 +117,9 @@ fn find_plan(
     let last = t.rows - 1;
     let mut reached = [NEVER; 128];
     reached[last] = 0;
-    let mut firsts = [UNREACHED; 128];
-    firsts[last] = t.sides.price;
-    let n = count_steps(
-        t,
-        units,
-        held,
-        caps,
-        floors,
-        most,
-        &mut reached,
-        &mut firsts,
-    );
+    let mut first = [UNREACHED; 128];
+    first[last] = t.sides.price;
+    let n = count_steps(t, units, held, caps, floors, most, &mut reached, &mut first);
     if n <= most {
         walk::walk(
             t,
@@ -137,7 +128,7 @@ fn find_plan(
             caps,
             floors,
             &reached,
-            &firsts,
+            &first,
             n,
             places,
             sums,

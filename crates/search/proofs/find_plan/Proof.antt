@@ -12,11 +12,11 @@ mul-reached c = search needs
 array-write-reached : tie.Need-array-write-reached
 array-write-reached c = search needs
 
-mul-firsts : tie.Need-mul-firsts
-mul-firsts c = search needs
+mul-first : tie.Need-mul-first
+mul-first c = search needs
 
-array-write-firsts : tie.Need-array-write-firsts
-array-write-firsts c = search needs
+array-write-first : tie.Need-array-write-first
+array-write-first c = search needs
 
 count-steps-requires : tie.Need-count-steps-requires
 count-steps-requires c κs = search needs
@@ -43,8 +43,8 @@ find-plan-spec =
     sub-last
     mul-reached
     array-write-reached
-    mul-firsts
-    array-write-firsts
+    mul-first
+    array-write-first
     count-steps-requires
     walk-requires
     same-length

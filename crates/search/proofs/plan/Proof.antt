@@ -33,29 +33,32 @@ returns c = let a = c .before .before .before .before .before .before .before .b
 
 -- the most steps are known, so rows, cells and areas suit
 module _ (c : tie.Else1) where
+  abbrev begin : tie.Start
+  begin = c .before .before .before .before .before .before .before .before .before .before .before
+
   abbrev us : List ℕ
-  us = now (c .before .before .before .before .before .before .before .before .before .before .before .args .units)
+  us = now (begin .args .units)
 
   abbrev costs : List ℕ
-  costs = now (c .before .before .before .before .before .before .before .before .before .before .before .args .costs)
+  costs = now (begin .args .costs)
 
   abbrev values : List ℕ
-  values = now (c .before .before .before .before .before .before .before .before .before .before .before .args .values)
+  values = now (begin .args .values)
 
   abbrev places : List ℕ
-  places = now (c .before .before .before .before .before .before .before .before .before .before .before .args .places)
+  places = now (begin .args .places)
 
   abbrev sums : List ℕ
-  sums = now (c .before .before .before .before .before .before .before .before .before .before .before .args .sums)
+  sums = now (begin .args .sums)
 
   abbrev work : List ℕ
-  work = now (c .before .before .before .before .before .before .before .before .before .before .before .args .work)
+  work = now (begin .args .work)
 
   abbrev most : ℕ
   most = c .before .most-steps .result
 
   abbrev t : Terms
-  t = record { sides = c .before .before .before .before .before .before .before .before .before .before .before .args .sides; rows = length costs }
+  t = record { sides = begin .args .sides; rows = length costs }
 
   suited : Suits us costs values places sums work × (most ≡ mostSteps us)
   suited = fit us costs values places sums work most (c .before .most-steps .ensures) (c .if1 .left)
@@ -64,7 +67,7 @@ module _ (c : tie.Else1) where
   all-suits = suits-yes us costs values places sums work (suited .0)
 
   fits : Fitted t us costs values most places sums
-  fits = fitted (suited .0) (suited .1) refl (c .before .before .before .before .before .before .before .before .before .before .before .pre .0) (c .before .before .before .before .before .before .before .before .before .before .before .pre .1) (c .before .before .before .before .before .before .before .before .before .before .before .pre .2)
+  fits = fitted (suited .0) (suited .1) refl (begin .pre .0) (begin .pre .1) (begin .pre .2)
 
 starts-requires : tie.Need-starts-requires
 starts-requires c κs = let f = fits c in (omega (arith, f .good .some), refl, f .values-all ∙ sym (f .costs-all))
