@@ -5,33 +5,71 @@ use mathlib.Core.Bool.{Bool}
 use Prim.Native.Nat.{ℕ, _+_, _≤_}
 use native.Mathlib.Omega.{arith}
 use lib.IntN.{pos, subℕ}
-use lib.Signed.{_≤ℤ_}
-use Rattle.exchange.specs.Bounds.{Terms, upperOf, lowerOf, SupplierGains, BuyerGains}
+use lib.Dec.{leb→le, le→leb}
+use lib.Signed.{_≤ℤ_, ≤ℤ-refl}
+use Rattle.exchange.specs.Bounds.{Terms, unclippedUpperOf, unclippedLowerOf, upperOf, lowerOf, SupplierGains, BuyerGains}
 use Rattle.exchange.specs.Deal.{dealOf, Safe}
-use Rattle.exchange.proofs.Int.{pos-is, pos-sub, sub-add, sub-sub, ≤-sub, not-less}
+use Rattle.exchange.proofs.Int.{pos-is, pos-sub, sub-add, sub-sub, ≤-sub, not-less, ≤-trans, ≤-min, max-≤}
 
 -- ---- a bound as a difference of two sums
 
-pub upper-is : (P vsL vs cs : ℕ) → upperOf P vsL vs cs ≡ subℕ (P + vs + cs) vsL
-unfolding upperOf
+pub upper-is : (P vsL vs cs : ℕ) → unclippedUpperOf P vsL vs cs ≡ subℕ (P + vs + cs) vsL
+unfolding unclippedUpperOf
 upper-is P vsL vs cs = rw (pos-sub P vsL, sub-add P vsL vs, sub-add (P + vs) vsL cs)
 
-pub lower-is : (P vdL vd cd : ℕ) → lowerOf P vdL vd cd ≡ subℕ (P + vd) (vdL + cd)
-unfolding lowerOf
+pub lower-is : (P vdL vd cd : ℕ) → unclippedLowerOf P vdL vd cd ≡ subℕ (P + vd) (vdL + cd)
+unfolding unclippedLowerOf
 lower-is P vdL vd cd = rw (pos-sub P vdL, sub-add P vdL vd, sub-sub (P + vd) vdL cd)
 
-pub high↔ : (P vsL vs cs p : ℕ) → (pos p ≤ℤ upperOf P vsL vs cs) ↔ (p + vsL ≤ P + vs + cs)
-high↔ P vsL vs cs p = rw (pos-is p, upper-is P vsL vs cs) (Iff·trans (≤-sub p 0 (P + vs + cs) vsL) (omega arith))
+unclipped-high↔ : (P vsL vs cs p : ℕ) → (pos p ≤ℤ unclippedUpperOf P vsL vs cs) ↔ (p + vsL ≤ P + vs + cs)
+unclipped-high↔ P vsL vs cs p = rw (pos-is p, upper-is P vsL vs cs) (Iff·trans (≤-sub p 0 (P + vs + cs) vsL) (omega arith))
+
+unclipped-low↔ : (P vdL vd cd p : ℕ) → (unclippedLowerOf P vdL vd cd ≤ℤ pos p) ↔ (P + vd ≤ p + (vdL + cd))
+unclipped-low↔ P vdL vd cd p = rw (pos-is p, lower-is P vdL vd cd) (Iff·trans (≤-sub (P + vd) (vdL + cd) p 0) (omega arith))
+
+-- ---- clipped
+
+-- a sum as integers
+pos-≤ : (p q : ℕ) → (pos p ≤ℤ pos q) ↔ (p ≤ q)
+pos-≤ p q = omega (arith, leb→le, le→leb)
+
+-- of a sum within the price, clipping the upper bound changes nothing
+pub high-same : (P vsL vs cs p : ℕ) → p ≤ P → (pos p ≤ℤ upperOf P vsL vs cs) ↔ (pos p ≤ℤ unclippedUpperOf P vsL vs cs)
+unfolding upperOf
+high-same P vsL vs cs p w = (λ h. ≤-min _ _ _ .0 h .0, λ h. ≤-min _ _ _ .1 (h, pos-≤ p P .1 w))
+
+-- of no sum does clipping the lower bound
+pub low-same : (P vdL vd cd p : ℕ) → (lowerOf P vdL vd cd ≤ℤ pos p) ↔ (unclippedLowerOf P vdL vd cd ≤ℤ pos p)
+unfolding lowerOf
+low-same P vdL vd cd p = (λ h. max-≤ _ _ _ .0 h .0, λ h. max-≤ _ _ _ .1 (h, pos-≤ 0 p .1 (omega arith)))
+
+pub high↔ : (P vsL vs cs p : ℕ) → p ≤ P → (pos p ≤ℤ upperOf P vsL vs cs) ↔ (p + vsL ≤ P + vs + cs)
+high↔ P vsL vs cs p w = Iff·trans (high-same P vsL vs cs p w) (unclipped-high↔ P vsL vs cs p)
 
 pub low↔ : (P vdL vd cd p : ℕ) → (lowerOf P vdL vd cd ≤ℤ pos p) ↔ (P + vd ≤ p + (vdL + cd))
-low↔ P vdL vd cd p = rw (pos-is p, lower-is P vdL vd cd) (Iff·trans (≤-sub (P + vd) (vdL + cd) p 0) (omega arith))
+low↔ P vdL vd cd p = Iff·trans (low-same P vdL vd cd p) (unclipped-low↔ P vdL vd cd p)
 
--- a bound does not fall where the cost, or the value, does not
+-- ---- a bound does not fall where the cost, or the value, does not
+
+pub unclipped-upper-rises : (P vsL cs : ℕ) {x y : ℕ} → x ≤ y → unclippedUpperOf P vsL x cs ≤ℤ unclippedUpperOf P vsL y cs
+unclipped-upper-rises P vsL cs {x} {y} h =
+    rw (upper-is P vsL x cs, upper-is P vsL y cs) (≤-sub (P + x + cs) vsL (P + y + cs) vsL .1 (omega arith))
+
+pub unclipped-lower-rises : (P vdL cd : ℕ) {x y : ℕ} → x ≤ y → unclippedLowerOf P vdL x cd ≤ℤ unclippedLowerOf P vdL y cd
+unclipped-lower-rises P vdL cd {x} {y} h =
+    rw (lower-is P vdL x cd, lower-is P vdL y cd) (≤-sub (P + x) (vdL + cd) (P + y) (vdL + cd) .1 (omega arith))
+
 pub upper-rises : (P vsL cs : ℕ) {x y : ℕ} → x ≤ y → upperOf P vsL x cs ≤ℤ upperOf P vsL y cs
-upper-rises P vsL cs {x} {y} h = rw (upper-is P vsL x cs, upper-is P vsL y cs) (≤-sub (P + x + cs) vsL (P + y + cs) vsL .1 (omega arith))
+unfolding upperOf
+upper-rises P vsL cs h =
+    let both = ≤-min _ _ _ .0 (≤ℤ-refl _) in
+    ≤-min _ _ _ .1 (≤-trans (both .0) (unclipped-upper-rises P vsL cs h), both .1)
 
 pub lower-rises : (P vdL cd : ℕ) {x y : ℕ} → x ≤ y → lowerOf P vdL x cd ≤ℤ lowerOf P vdL y cd
-lower-rises P vdL cd {x} {y} h = rw (lower-is P vdL x cd, lower-is P vdL y cd) (≤-sub (P + x) (vdL + cd) (P + y) (vdL + cd) .1 (omega arith))
+unfolding lowerOf
+lower-rises P vdL cd h =
+    let both = max-≤ _ _ _ .0 (≤ℤ-refl _) in
+    max-≤ _ _ _ .1 (≤-trans (unclipped-lower-rises P vdL cd h) (both .0), both .1)
 
 -- ---- safe states
 
@@ -47,8 +85,8 @@ module _ (t : Terms) (holds : ℕ → ℕ → Bool) (x p : ℕ) where
   safe↔ =
       let low = low↔ (t .price) (t .value (t .last)) (t .value x) (t .buyer) p in
       let high = high↔ (t .price) (t .cost (t .last)) (t .cost x) (t .supplier) p in (
-        λ s. record { low = low .0 (s .low); high = high .0 (s .high); within = s .within },
-        λ s. record { low = low .1 (s .low); high = high .1 (s .high); within = s .within },
+        λ s. record { low = low .0 (s .low); high = high (s .within) .0 (s .high); within = s .within },
+        λ s. record { low = low .1 (s .low); high = high (s .within) .1 (s .high); within = s .within },
       )
 
   supplier-stays : (SupplierGains t x p → ⊥) ↔ (p + t .cost (t .last) ≤ t .price + t .cost x + t .supplier)

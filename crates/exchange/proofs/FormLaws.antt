@@ -11,7 +11,7 @@ use Rattle.grid.specs.Rows.{rowsOf, rising}
 use Rattle.grid.proofs.RowLaws.{rows-pos}
 use Rattle.exchange.specs.Bounds.{Terms}
 use Rattle.exchange.specs.Deal.{dealOf}
-use Rattle.exchange.specs.Forms.{along, line, ladder, inOrder, holdsRow, table}
+use Rattle.exchange.specs.Forms.{along, ladderTerms, orderTerms, line, ladder, inOrder, holdsRow, table}
 use Rattle.exchange.specs.Work.{Rising}
 use Rattle.exchange.specs.declared.Sides.{Sides}
 use Rattle.exchange.proofs.BoundLaws.{high↔, low↔, upper-rises, lower-rises}
@@ -29,16 +29,16 @@ terms-rising t holds self from-start costs values =
       holds-start = from-start;
       upper-rises = λ a b i j h. upper-rises (t .price) (t .cost (t .last)) (t .supplier) (costs a b i j h);
       lower-rises = λ a b i j h. lower-rises (t .price) (t .value (t .last)) (t .buyer) (values a b i j h);
-      upper-last = high↔ (t .price) (t .cost (t .last)) (t .cost (t .last)) (t .supplier) (t .price) .1 (omega arith);
+      upper-last = high↔ (t .price) (t .cost (t .last)) (t .cost (t .last)) (t .supplier) (t .price) (le-refl _) .1 (omega arith);
       lower-last = low↔ (t .price) (t .value (t .last)) (t .value (t .last)) (t .buyer) (t .price) .1 (omega arith);
     }
 
 -- ---- along one order
 
-pub line-rising : (p : Sides) (n : ℕ) (cost value : ℕ → ℕ) → ((i j : ℕ) → i ≤ j → cost i ≤ cost j) → ((i j : ℕ) → i ≤ j → value i ≤ value j)
-    → Rising (line p n cost value)
-line-rising p n cost value costs values =
-    terms-rising _ leb (λ a. le→leb a a (le-refl a)) (λ a. le→leb 0 a (omega arith)) (λ a b i j h. costs a b (leb→le a b h))
+line-rising : (t : Terms) → ((i j : ℕ) → i ≤ j → t .cost i ≤ t .cost j) → ((i j : ℕ) → i ≤ j → t .value i ≤ t .value j)
+    → Rising (line t)
+line-rising t costs values =
+    terms-rising t leb (λ a. le→leb a a (le-refl a)) (λ a. le→leb 0 a (omega arith)) (λ a b i j h. costs a b (leb→le a b h))
     (λ a b i j h. values a b (leb→le a b h))
 
 pub along-rises : (f : ℕ → ℕ) (σ : List ℕ) (i j : ℕ) → i ≤ j → along f σ i ≤ along f σ j
@@ -49,10 +49,10 @@ along-rises f (u ∷ σ) (suc i) zero h = absurd (omega arith)
 along-rises f (u ∷ σ) (suc i) (suc j) h = omega (arith, along-rises f σ i j (omega arith))
 
 pub ladder-rising : (p : Sides) (costs values : List ℕ) → Rising (ladder p costs values)
-ladder-rising p costs values = line-rising p (length costs) _ _ (along-rises _ costs) (along-rises _ values)
+ladder-rising p costs values = line-rising (ladderTerms p costs values) (along-rises _ costs) (along-rises _ values)
 
 pub order-rising : (p : Sides) (costs values σ : List ℕ) → Rising (inOrder p costs values σ)
-order-rising p costs values σ = line-rising p (length σ) _ _ (along-rises _ σ) (along-rises _ σ)
+order-rising p costs values σ = line-rising (orderTerms p costs values σ) (along-rises _ σ) (along-rises _ σ)
 
 -- ---- over the rows of a table
 

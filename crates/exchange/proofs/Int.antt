@@ -1,6 +1,6 @@
 -- The integers as differences, `subℕ a b` for a − b, so that sums and orders of them are sums and orders in ℕ, which `omega` reads.
 -- Assumes nothing.
-use mathlib.Core.Path.{_≡_, refl, sym, ap, _∙_}
+use mathlib.Core.Path.{_≡_, refl, sym, ap, _∙_, subst}
 use mathlib.Core.Logic.{_↔_}
 use mathlib.Core.Bool.{Bool, true, false, not, cond}
 use Prim.Native.Nat.{ℕ, zero, suc, _+_, _-_, _≤_}
@@ -8,8 +8,9 @@ use native.Mathlib.Omega.{arith}
 use lib.IntN.{ℤ, pos, negsuc, negℤ, subℕ, _+ℤ_, _-ℤ_, +ℤ-assoc, +ℤ-comm, negℤ-+ℤ}
 use lib.Signed.{leZ, ltZ, _≤ℤ_, _<ℤ_, ltZ-yes, ltZ-no, <ℤ-≤ℤ-trans, clashℤ}
 use lib.Ieee.Bits.{is-true}
-use lib.Dec.{leb, ltb, leb→le, le→leb, not-T}
+use lib.Dec.{T, leb, ltb, leb→le, le→leb, not-T}
 use borrow.Author.Tests.{ltb-true, ltb-false, le-ltb, lt-leb, le-leb}
+use Rattle.exchange.specs.Bounds.{minℤ, maxℤ}
 
 -- ---- sums
 
@@ -66,3 +67,29 @@ leZ-not (negsuc a) (negsuc b) = leb-not b a
 
 pub leZ-true : (x y : ℤ) → (leZ x y ≡ true) ↔ (x ≤ℤ y)
 leZ-true x y = (λ e. record { le = rw e tt }, λ h. is-true (leZ x y) (h .le))
+
+-- ---- the smaller and the greater of two
+
+less-≤ : (x y : ℤ) → ltZ x y ≡ true → x ≤ℤ y
+less-≤ (pos a) (pos b) e = let h = ltb-true a b e in record { le = le→leb a b (omega arith) }
+less-≤ (pos a) (negsuc b) e = absurd (subst T (sym e) tt)
+less-≤ (negsuc a) (pos b) e = record { le = tt }
+less-≤ (negsuc a) (negsuc b) e = let h = ltb-true b a e in record { le = le→leb b a (omega arith) }
+
+pub not-less-≤ : (x y : ℤ) → ltZ x y ≡ false → y ≤ℤ x
+not-less-≤ x y e = ltZ-no (rw e tt)
+
+module _ (x y z : ℤ) where
+  pub ≤-min : (z ≤ℤ minℤ x y) ↔ ((z ≤ℤ x) × (z ≤ℤ y))
+  ≤-min = go (ltZ x y) refl
+    where
+      go : (t : Bool) → ltZ x y ≡ t → (z ≤ℤ cond t x y) ↔ ((z ≤ℤ x) × (z ≤ℤ y))
+      go true e = (λ h. (h, ≤-trans h (less-≤ x y e)), λ h. h .0)
+      go false e = (λ h. (≤-trans h (not-less-≤ x y e), h), λ h. h .1)
+
+  pub max-≤ : (maxℤ x y ≤ℤ z) ↔ ((x ≤ℤ z) × (y ≤ℤ z))
+  max-≤ = go (ltZ x y) refl
+    where
+      go : (t : Bool) → ltZ x y ≡ t → (cond t y x ≤ℤ z) ↔ ((x ≤ℤ z) × (y ≤ℤ z))
+      go true e = (λ h. (≤-trans (less-≤ x y e) h, h), λ h. h .1)
+      go false e = (λ h. (h, ≤-trans (not-less-≤ x y e) h), λ h. h .0)

@@ -2,6 +2,7 @@
 pub mod Int
 pub mod BoundLaws
 pub mod Bridge
+pub mod Clipped
 pub mod TableLaws
 pub mod FormLaws
 -- the code's tests

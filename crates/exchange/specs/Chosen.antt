@@ -3,11 +3,12 @@ use mathlib.Core.Path.{_≡_}
 use mathlib.Core.Logic.{_⊎_}
 use mathlib.Core.List.{List, [], _∷_, _++_, reverse}
 use Prim.Native.Nat.{ℕ, _-_, _≤_, _<_}
+use lib.Dec.{leb}
 use lib.IntN.{ℤ, pos, _-ℤ_}
 use lib.ListN.{length, getD, replicate}
 use lib.Signed.{_≤ℤ_}
-use Rattle.exchange.specs.Deal.{Deal}
-use Rattle.exchange.specs.Forms.{inOrder, occurs}
+use Rattle.exchange.specs.Deal.{Deal, unclipped}
+use Rattle.exchange.specs.Forms.{orderTerms, occurs}
 use Rattle.exchange.specs.declared.Sides.{Sides}
 
 -- "upper less lower" at a place
@@ -66,6 +67,8 @@ module _ (d : Deal) (units costs values : List ℕ) where
     pub forwards : AgainAndAgain (λ placed. Next (MayFollow placed) (λ j. at costs j - at values j)) [] firsts
     pub backwards : AgainAndAgain (λ placed. Next (MayPrecede placed) (λ j. at values j - at costs j)) [] others
 
--- the items of unit prices in the chosen order, by the bounds of the deal along that very order
+-- the items of unit prices in the chosen order, by the bounds along that very order: W4's "difference is still taken between the
+-- unclipped bounds"
 abbrev pub IsChosen : Sides → List ℕ → List ℕ → List ℕ → List ℕ → Type 0
-IsChosen p units costs values items = InChosenOrder (inOrder p costs values (together units items)) units costs values items
+IsChosen p units costs values items =
+    InChosenOrder (unclipped (orderTerms p costs values (together units items)) leb) units costs values items

@@ -21,6 +21,11 @@ pub record Deal : Type 0 where
 abbrev pub dealOf : Terms → (ℕ → ℕ → Bool) → Deal
 dealOf t holds = record { price = t .price; last = t .last; upper = bounds.upper t; lower = bounds.lower t; holds = holds }
 
+-- the deal with these amounts by the unclipped bounds, as it was ahead of W4
+abbrev pub unclipped : Terms → (ℕ → ℕ → Bool) → Deal
+unclipped t holds =
+    record { price = t .price; last = t .last; upper = bounds.unclippedUpper t; lower = bounds.unclippedLower t; holds = holds }
+
 -- a state: the place delivered and the sum paid
 pub record State : Type 0 where
   pub place : ℕ

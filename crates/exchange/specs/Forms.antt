@@ -6,6 +6,7 @@ use Prim.Native.Nat.{ℕ, zero, suc, _+_, _-_, _/_, _%_}
 use lib.Dec.{leb, eqb}
 use lib.ListN.{length, getD}
 use Rattle.grid.specs.Rows.{rowsOf}
+use Rattle.exchange.specs.Bounds.{Terms}
 use Rattle.exchange.specs.Deal.{Deal, dealOf}
 use Rattle.exchange.specs.declared.Sides.{Sides}
 
@@ -15,18 +16,30 @@ along f [] k = 0
 along f (j ∷ σ) zero = 0
 along f (j ∷ σ) (suc k) = f j + along f σ k
 
--- a deal along one order: places count units, and a later place holds the units of every earlier one
-abbrev pub line : Sides → ℕ → (ℕ → ℕ) → (ℕ → ℕ) → Deal
-line p n cost value = dealOf (record { price = p .price; supplier = p .supplier; buyer = p .buyer; last = n; cost = cost; value = value }) leb
+-- the amounts of a deal, by its last place and the cost and the value of each place
+abbrev pub termsOf : Sides → ℕ → (ℕ → ℕ) → (ℕ → ℕ) → Terms
+termsOf p last cost value = record { price = p .price; supplier = p .supplier; buyer = p .buyer; last = last; cost = cost; value = value }
 
--- a ladder, by the rise of cost and the rise of value of each unit: "A ladder has its own order only"
-abbrev pub ladder : Sides → List ℕ → List ℕ → Deal
-ladder p costs values = line p (length costs) (along (λ c. c) costs) (along (λ v. v) values)
+-- the amounts of a ladder, by the rise of cost and the rise of value of each unit
+abbrev pub ladderTerms : Sides → List ℕ → List ℕ → Terms
+ladderTerms p costs values = termsOf p (length costs) (along (λ c. c) costs) (along (λ v. v) values)
 
 -- "An order names each unit by its item; places count along it, and the cost and value of a place are the sums over its units";
 -- items are counted from 0, with the cost and the value of a unit of each
+abbrev pub orderTerms : Sides → List ℕ → List ℕ → List ℕ → Terms
+orderTerms p costs values σ = termsOf p (length σ) (along (λ j. getD costs j 0) σ) (along (λ j. getD values j 0) σ)
+
+-- a deal along one order: places count units, and a later place holds the units of every earlier one
+abbrev pub line : Terms → Deal
+line t = dealOf t leb
+
+-- a ladder: "A ladder has its own order only"
+abbrev pub ladder : Sides → List ℕ → List ℕ → Deal
+ladder p costs values = line (ladderTerms p costs values)
+
+-- unit prices along an order
 abbrev pub inOrder : Sides → List ℕ → List ℕ → List ℕ → Deal
-inOrder p costs values σ = line p (length σ) (along (λ j. getD costs j 0) σ) (along (λ j. getD values j 0) σ)
+inOrder p costs values σ = line (orderTerms p costs values σ)
 
 -- how often an item stands in an order
 unfoldable pub occurs : ℕ → List ℕ → ℕ
@@ -45,13 +58,4 @@ holdsRow (u ∷ us) a b = leb (a / rowsOf us % (u + 1)) (b / rowsOf us % (u + 1)
 -- a table, by the units of each item and the cost and the value of each row
 abbrev pub table : Sides → List ℕ → List ℕ → List ℕ → Deal
 table p units costs values =
-    dealOf
-    (record {
-      price = p .price;
-      supplier = p .supplier;
-      buyer = p .buyer;
-      last = rowsOf units - 1;
-      cost = λ r. getD costs r 0;
-      value = λ r. getD values r 0;
-    })
-    (holdsRow units)
+    dealOf (termsOf p (rowsOf units - 1) (λ r. getD costs r 0) (λ r. getD values r 0)) (holdsRow units)

@@ -8,6 +8,7 @@ pub mod Possible
 pub mod Chosen
 pub mod Fewest
 pub mod Objectives
+pub mod Clipped
 pub mod Test
 pub mod PlanIn
 pub mod Named

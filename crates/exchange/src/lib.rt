@@ -2,7 +2,7 @@
 ghost use mathlib.Core.Path.{_≡_};
 ghost use Prim.Native.Nat.{min, _<_, _≤_, _^_};
 ghost use lib.IntN.{subℕ};
-ghost use Rattle.exchange.specs.Bounds.{upperOf, lowerOf};
+ghost use Rattle.exchange.specs.Bounds.{unclippedUpperOf, unclippedLowerOf, upperOf, lowerOf};
 ghost use Rattle.exchange.specs.Rule.{coins};
 ghost use Rattle.exchange.specs.Test.{safeTest};
 
@@ -29,7 +29,7 @@ pub enum Objective {
     Moves,
 }
 
-// The bounds of a place. Either may be negative.
+// The bounds of a place. The lower is at least 0, the upper at most the price; it may be negative.
 pub struct Bounds {
     pub lower: i64,
     pub upper: i64,
@@ -43,9 +43,9 @@ fn minus(added: u64, taken: u64) -> i64
     added as i64 - taken as i64
 }
 
-// The most that may be paid at a place.
-pub fn upper(price: u32, cost_last: u32, cost_here: u32, supplier: u32) -> i64
-    ensures { λ r. ⌜ r ≡ upperOf price «cost_last» «cost_here» supplier ⌝ }
+// The upper bound of a place, unclipped.
+pub fn unclipped_upper(price: u32, cost_last: u32, cost_here: u32, supplier: u32) -> i64
+    ensures { λ r. ⌜ r ≡ unclippedUpperOf price «cost_last» «cost_here» supplier ⌝ }
 {
     minus(
         price as u64 + cost_here as u64 + supplier as u64,
@@ -53,9 +53,9 @@ pub fn upper(price: u32, cost_last: u32, cost_here: u32, supplier: u32) -> i64
     )
 }
 
-// The least that must be paid at a place.
-pub fn lower(price: u32, value_last: u32, value_here: u32, buyer: u32) -> i64
-    ensures { λ r. ⌜ r ≡ lowerOf price «value_last» «value_here» buyer ⌝ }
+// The lower bound of a place, unclipped.
+pub fn unclipped_lower(price: u32, value_last: u32, value_here: u32, buyer: u32) -> i64
+    ensures { λ r. ⌜ r ≡ unclippedLowerOf price «value_last» «value_here» buyer ⌝ }
 {
     minus(
         price as u64 + value_here as u64,
@@ -63,7 +63,30 @@ pub fn lower(price: u32, value_last: u32, value_here: u32, buyer: u32) -> i64
     )
 }
 
-// The most that is paid at a place: the smaller of its upper bound and the price, and nothing where that bound is below 0.
+// The most that may be paid at a place, never above the price. A negative one stays: nothing that is paid there is safe.
+pub fn upper(price: u32, cost_last: u32, cost_here: u32, supplier: u32) -> i64
+    ensures { λ r. ⌜ r ≡ upperOf price «cost_last» «cost_here» supplier ⌝ }
+{
+    let bound = unclipped_upper(price, cost_last, cost_here, supplier);
+    let most = price as i64;
+    if bound < most {
+        return bound;
+    }
+    most
+}
+
+// The least that must be paid at a place, never below 0.
+pub fn lower(price: u32, value_last: u32, value_here: u32, buyer: u32) -> i64
+    ensures { λ r. ⌜ r ≡ lowerOf price «value_last» «value_here» buyer ⌝ }
+{
+    let bound = unclipped_lower(price, value_last, value_here, buyer);
+    if bound < 0 {
+        return 0;
+    }
+    bound
+}
+
+// The most that is paid at a place: its upper bound, and nothing where that is below 0.
 pub fn most_paid(price: u32, cost_last: u32, cost_here: u32, supplier: u32) -> u32
     ensures { λ r. ⌜ r ≡ min (coins (upperOf price «cost_last» «cost_here» supplier)) price ⌝ }
 {
@@ -71,22 +94,15 @@ pub fn most_paid(price: u32, cost_last: u32, cost_here: u32, supplier: u32) -> u
     if bound < 0 {
         return 0;
     }
-    if bound < price as i64 {
-        return bound as u32;
-    }
-    price
+    bound as u32
 }
 
-// The least that is paid at a place: the greater of its lower bound and 0. No place has a greater value than the last, so it is at most the price.
+// The least that is paid at a place: its lower bound. No place has a greater value than the last, so it is at most the price.
 pub fn least_paid(price: u32, value_last: u32, value_here: u32, buyer: u32) -> u32
     requires { ⌜ «value_here» ≤ «value_last» ⌝ }
     ensures { λ r. ⌜ r ≡ coins (lowerOf price «value_last» «value_here» buyer) ⌝ }
 {
-    let bound = lower(price, value_last, value_here, buyer);
-    if bound < 0 {
-        return 0;
-    }
-    bound as u32
+    lower(price, value_last, value_here, buyer) as u32
 }
 
 // Whether the state (place, paid) is safe, by the bounds of its place.

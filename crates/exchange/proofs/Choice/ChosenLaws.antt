@@ -8,13 +8,13 @@ use mathlib.Core.Option.{Option, none, some}
 use Prim.Native.Nat.{ℕ, _+_, _-_, _≤_, _<_}
 use native.Mathlib.Decide.{ℕ-discrete}
 use native.Mathlib.Omega.{arith}
-use lib.Dec.{eqb}
+use lib.Dec.{leb, eqb}
 use lib.IntN.{pos}
 use lib.ListN.{length, length-append, length-reverse}
 use lib.Signed.{_≤ℤ_}
 use borrow.Author.Tests.{leb-true, le-leb, lt-leb, leb-false, not-true, eqb-true, eq-eqb}
-use Rattle.exchange.specs.Deal.{Deal}
-use Rattle.exchange.specs.Forms.{occurs, inOrder, Order}
+use Rattle.exchange.specs.Deal.{Deal, unclipped}
+use Rattle.exchange.specs.Forms.{orderTerms, occurs, Order}
 use Rattle.exchange.specs.Chosen.{slack, at, together, Next, MayFollow, MayPrecede, IsChosen}
 use Rattle.exchange.specs.Choice.{hasRoom, front, back, placed, bothEnds, choose}
 use Rattle.exchange.specs.declared.Sides.{Sides}
@@ -26,9 +26,9 @@ use Rattle.exchange.proofs.Choice.Slack.{front-room, back-room}
 use Rattle.exchange.proofs.Choice.OneByOne.{again-some, again-so, placed-found, placed-is, found-next, next-found}
 
 module _ (p : Sides) (units costs values σ : List ℕ) where
-  -- the deal along the order
+  -- the deal along the order, by the unclipped bounds
   abbrev d : Deal
-  d = inOrder p costs values σ
+  d = unclipped (orderTerms p costs values σ) leb
 
   -- ---- who may be next, from either end, along an order that begins, or ends, with what is placed
 
@@ -66,7 +66,7 @@ module _ (p : Sides) (units costs values items firsts others : List ℕ) (joined
   order = together units items
 
   abbrev along : Deal
-  along = inOrder p costs values order
+  along = d p units costs values order
 
   is-order : Order units order
   is-order = once-order units items once

@@ -8,35 +8,25 @@ use native.Mathlib.Omega.{arith}
 use lib.Dec.{leb}
 use lib.ListN.{length}
 use lib.Signed.{_≤ℤ_}
-use Rattle.exchange.specs.Bounds.{Terms, upperOf, lowerOf}
-use Rattle.exchange.specs.Deal.{Safe}
-use Rattle.exchange.specs.Forms.{along, inOrder, Order}
+use Rattle.exchange.specs.Bounds.{unclippedUpperOf, unclippedLowerOf}
+use Rattle.exchange.specs.Deal.{Safe, unclipped}
+use Rattle.exchange.specs.Forms.{along, orderTerms, inOrder, Order}
 use Rattle.exchange.specs.Possible.{Possible}
 use Rattle.exchange.specs.Chosen.{at}
 use Rattle.exchange.specs.Choice.{sumOver, allItems}
 use Rattle.exchange.specs.declared.Sides.{Sides}
 use Rattle.exchange.proofs.Int.{≤-sub}
 use Rattle.exchange.proofs.BoundLaws.{upper-is, lower-is, safe↔}
+use Rattle.exchange.proofs.Clipped.{clipped-same, possible-same}
+use Rattle.exchange.proofs.FormLaws.{order-rising}
 use Rattle.exchange.proofs.Choice.Sums.{along-all, along-none, sum-order}
 use Rattle.exchange.proofs.Choice.Room.{allowed-places, places-allowed}
 use Rattle.exchange.proofs.Choice.Both.{Fitting}
 
--- a lower bound is at most an upper one, with no subtraction
-gap↔ : (P vdL vd cd vsL vs cs : ℕ) → (lowerOf P vdL vd cd ≤ℤ upperOf P vsL vs cs) ↔ (vd + vsL ≤ vs + cs + (vdL + cd))
+-- an unclipped lower bound is at most an unclipped upper one, with no subtraction
+gap↔ : (P vdL vd cd vsL vs cs : ℕ) → (unclippedLowerOf P vdL vd cd ≤ℤ unclippedUpperOf P vsL vs cs) ↔ (vd + vsL ≤ vs + cs + (vdL + cd))
 gap↔ P vdL vd cd vsL vs cs =
     rw (lower-is P vdL vd cd, upper-is P vsL vs cs) (Iff·trans (≤-sub (P + vd) (vdL + cd) (P + vs + cs) vsL) (omega arith))
-
--- the amounts of the deal along an order
-abbrev pub terms : Sides → List ℕ → List ℕ → List ℕ → Terms
-terms p costs values σ =
-    record {
-      price = p .price;
-      supplier = p .supplier;
-      buyer = p .buyer;
-      last = length σ;
-      cost = along (at costs) σ;
-      value = along (at values) σ;
-    }
 
 -- the cost, or the value, of the last place is the same along every order
 pub last-is : (units : List ℕ) (w : ℕ → ℕ) (σ : List ℕ) → Order units σ → along w σ (length σ) ≡ sumOver units w (allItems (length units))
@@ -53,7 +43,7 @@ module _ (p : Sides) (units costs values : List ℕ) where
       let c = last-is units (at costs) σ o in
       let v0 = along-none (at values) σ in
       let c0 = along-none (at costs) σ in
-      Iff·trans (safe↔ (terms p costs values σ) leb 0 0) (
+      Iff·trans (safe↔ (orderTerms p costs values σ) leb 0 0) (
         λ s. (omega (arith, s .low), omega (arith, s .high)),
         λ s. record { low = omega (arith, s .0); high = omega (arith, s .1); within = omega arith },
       )
@@ -64,16 +54,20 @@ module _ (p : Sides) (units costs values : List ℕ) where
   same-start σ τ o q s = start↔ τ q .1 (start↔ σ o .0 s)
 
   module _ (σ : List ℕ) (o : Order units σ) where
+    same : Possible (inOrder p costs values σ) ↔ Possible (unclipped (orderTerms p costs values σ) leb)
+    same = possible-same (orderTerms p costs values σ) (order-rising p costs values σ)
+
     pub possible-fits : Possible (inOrder p costs values σ) → Fitting p units costs values σ
     possible-fits h =
         places-allowed (at values) (at costs) σ _ _
-        (λ i l. omega (arith, gap↔ _ _ _ _ _ _ _ .0 (h .no-gap i l), last-is units (at values) σ o, last-is units (at costs) σ o))
+        (λ i l. omega (arith, gap↔ _ _ _ _ _ _ _ .0 (same .0 h .no-gap i l), last-is units (at values) σ o, last-is units (at costs) σ o))
 
     pub fits-possible : Safe (inOrder p costs values σ) 0 0 → Fitting p units costs values σ → Possible (inOrder p costs values σ)
     fits-possible s f =
-        record {
-          start-safe = s;
+        same .1
+        (record {
+          start-safe = clipped-same (orderTerms p costs values σ) leb .safe 0 0 .0 s;
           no-gap = λ i l.
               gap↔ _ _ _ _ _ _ _ .1
               (omega (arith, allowed-places (at values) (at costs) σ _ _ f i l, last-is units (at values) σ o, last-is units (at costs) σ o));
-        }
+        })

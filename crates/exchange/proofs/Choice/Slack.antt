@@ -6,19 +6,21 @@ use mathlib.Core.Logic.{_↔_, Iff·trans, Iff·symm}
 use mathlib.Core.List.{List, [], _∷_, _++_, reverse}
 use Prim.Native.Nat.{ℕ, _+_, _≤_}
 use native.Mathlib.Omega.{arith}
+use lib.Dec.{leb}
 use lib.IntN.{ℤ, pos, negℤ, subℕ, _+ℤ_, _-ℤ_, +ℤ-assoc, negℤ-+ℤ, negℤ-negℤ}
 use lib.ListN.{length}
 use lib.Signed.{_≤ℤ_}
 use borrow.Author.Tests.{leb-true, le-leb}
-use Rattle.exchange.specs.Bounds.{Terms, upper, lower}
-use Rattle.exchange.specs.Forms.{along, inOrder, Order}
+use Rattle.exchange.specs.Bounds.{Terms, unclippedUpper, unclippedLower}
+use Rattle.exchange.specs.Deal.{unclipped}
+use Rattle.exchange.specs.Forms.{along, orderTerms, Order}
 use Rattle.exchange.specs.Chosen.{slack, at, together}
 use Rattle.exchange.specs.Choice.{sumOver, hasRoom, front, back}
 use Rattle.exchange.specs.declared.Sides.{Sides}
 use Rattle.exchange.proofs.Int.{pos-is, pos-sub, sub-add, sub-sub, ≤-sub}
 use Rattle.exchange.proofs.BoundLaws.{upper-is, lower-is}
 use Rattle.exchange.proofs.Choice.Sums.{sum, sum-append, sum-reverse, sum-together, along-all}
-use Rattle.exchange.proofs.Choice.Deal.{terms, last-is}
+use Rattle.exchange.proofs.Choice.Deal.{last-is}
 
 sub-of : (a b c d : ℕ) → subℕ a b -ℤ subℕ c d ≡ subℕ (a + d) (b + c)
 sub-of a b c d =
@@ -29,7 +31,7 @@ sub-of a b c d =
 
 -- at most the slack, with no subtraction
 slack↔ : (t : Terms) (x m : ℕ)
-    → (pos m ≤ℤ (upper t x -ℤ lower t x)) ↔ (m + t .cost (t .last) + t .value x ≤ t .cost x + t .supplier + (t .value (t .last) + t .buyer))
+    → (pos m ≤ℤ (unclippedUpper t x -ℤ unclippedLower t x)) ↔ (m + t .cost (t .last) + t .value x ≤ t .cost x + t .supplier + (t .value (t .last) + t .buyer))
 slack↔ t x m =
     let added = t .price + t .cost x + t .supplier in
     let taken = t .value (t .last) + t .buyer in
@@ -69,18 +71,18 @@ module _ (units done rest : List ℕ) where
   module _ (p : Sides) (costs values : List ℕ) (j : ℕ) where
     pub front-room : Order units begun
         → (hasRoom (front p units costs values) done j ≡ true)
-        ↔ (pos (at values j) ≤ℤ slack (inOrder p costs values begun) (length (together units done)))
+        ↔ (pos (at values j) ≤ℤ slack (unclipped (orderTerms p costs values begun) leb) (length (together units done)))
     front-room o =
         let v = last-is units (at values) begun o in
         let c = last-is units (at costs) begun o in
         let vs = begun-part (at values) in
         let cs = begun-part (at costs) in
         Iff·trans (omega (arith, leb-true, le-leb))
-        (Iff·symm (slack↔ (terms p costs values begun) (length (together units done)) (at values j)))
+        (Iff·symm (slack↔ (orderTerms p costs values begun) (length (together units done)) (at values j)))
 
     pub back-room : (hasRoom (back p units costs values) done j ≡ true)
-        ↔ (pos (at costs j) ≤ℤ slack (inOrder p costs values ended) (length rest))
+        ↔ (pos (at costs j) ≤ℤ slack (unclipped (orderTerms p costs values ended) leb) (length rest))
     back-room =
         let vs = ended-part (at values) in
         let cs = ended-part (at costs) in
-        Iff·trans (omega (arith, leb-true, le-leb)) (Iff·symm (slack↔ (terms p costs values ended) (length rest) (at costs j)))
+        Iff·trans (omega (arith, leb-true, le-leb)) (Iff·symm (slack↔ (orderTerms p costs values ended) (length rest) (at costs j)))

@@ -2,7 +2,7 @@
 use mathlib.Core.Path.{_≡_, refl}
 use mathlib.Core.List.{[], _∷_}
 use Prim.Native.Nat.{ℕ}
-use Rattle.exchange.specs.Bounds.{upperOf, lowerOf}
+use Rattle.exchange.specs.Bounds.{unclippedUpperOf, unclippedLowerOf, upperOf, lowerOf}
 use Rattle.exchange.specs.Deal.{Deal, State, start}
 use Rattle.exchange.specs.Forms.{along, ladder}
 use Rattle.exchange.specs.Rule.{reach, rule, ruled}
@@ -20,11 +20,11 @@ abbrev free : Deal
 free = two 10 5 5
 
 delivery-first : opening (deliveryOnly free) (ruled free (deliveryOnly free) 2) ≡ at 1 0 ∷ at 1 10 ∷ at 2 10 ∷ []
-unfolding upperOf lowerOf along reach rule ruled rises deliveryOnly opening
+unfolding unclippedUpperOf unclippedLowerOf upperOf lowerOf along reach rule ruled rises deliveryOnly opening
 delivery-first = refl
 
 payment-first : opening (paymentOnly free) (ruled free (paymentOnly free) 2) ≡ at 0 7 ∷ at 2 7 ∷ at 2 10 ∷ []
-unfolding upperOf lowerOf along reach rule ruled rises paymentOnly opening
+unfolding unclippedUpperOf unclippedLowerOf upperOf lowerOf along reach rule ruled rises paymentOnly opening
 payment-first = refl
 
 -- three moves each: the payment start is taken
@@ -34,14 +34,14 @@ tie = refl
 
 counts : (count pays start (at 1 0 ∷ at 1 10 ∷ at 2 10 ∷ []) ≡ 1) × (count delivers start (at 0 7 ∷ at 2 7 ∷ at 2 10 ∷ []) ≡ 1)
     × (count moves start (ruled free start 2) ≡ 4)
-unfolding upperOf lowerOf along reach rule ruled rises
+unfolding unclippedUpperOf unclippedLowerOf upperOf lowerOf along reach rule ruled rises
 counts = (refl, refl, refl)
 
 -- case A: nothing can be delivered first, so that step is dropped; case C: nothing can be paid first
 dropped-delivery : opening (deliveryOnly (two 10 1 3)) [] ≡ []
-unfolding upperOf lowerOf along reach rule rises deliveryOnly opening
+unfolding unclippedUpperOf unclippedLowerOf upperOf lowerOf along reach rule rises deliveryOnly opening
 dropped-delivery = refl
 
 dropped-payment : opening (paymentOnly (two 7 1 3)) [] ≡ []
-unfolding upperOf lowerOf along reach rule rises paymentOnly opening
+unfolding unclippedUpperOf unclippedLowerOf upperOf lowerOf along reach rule rises paymentOnly opening
 dropped-payment = refl

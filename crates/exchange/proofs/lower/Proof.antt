@@ -1,22 +1,34 @@
--- `exchange::lower` meets its contract: the bound is a difference of two sums. Assumes nothing.
-use mathlib.Core.Path.{sym, _∙_}
-use mir.Facts.{toZ-ofZ}
+-- `exchange::lower` meets its contract: the greater of two numbers. Assumes nothing.
+use mathlib.Core.Path.{_≡_}
+use mathlib.Core.Bool.{true, false}
 use borrow.Author.Needs.{needs}
-use Rattle.exchange.proofs.BoundLaws.{lower-is}
+use lib.Signed.{ltZ}
+use lib.IntN.{pos}
+use mir.Syntax.{w64}
+use mir.Val.{toZ, ofZ}
+use mir.Facts.{toZ-ofZ}
+use Rattle.exchange.specs.Bounds.{lowerOf}
 use Rattle.exchange.proofs.lower.Statement.{statement}
 use Rattle.exchange.proofs.lower.Tie as tie
 
-add-minus : tie.Need-add-minus
-add-minus c = search needs
-
-add-minus-2 : tie.Need-add-minus-2
-add-minus-2 c = search needs
-
-minus-requires : tie.Need-minus-requires
-minus-requires c κs = search needs
+unclipped-lower-requires : tie.Need-unclipped-lower-requires
+unclipped-lower-requires c κs = search needs
 
 returns : tie.Need-returns
-returns c = toZ-ofZ (search needs) ∙ c .minus .ensures ∙ sym (lower-is (c .before .args .price) (c .before .args .value-last) (c .before .args .value-here) (c .before .args .buyer))
+unfolding lowerOf
+returns c =
+    let z = c .before .unclipped-lower .result in
+    let k : toZ w64 (ofZ w64 z) ≡ z = toZ-ofZ (search needs) in
+    let f : ltZ (toZ w64 (ofZ w64 z)) (pos 0) ≡ true = c .if1 .taken in
+    rw (← c .before .unclipped-lower .ensures, rw k at f)
+
+returns-2 : tie.Need-returns-2
+unfolding lowerOf
+returns-2 c =
+    let z = c .before .unclipped-lower .result in
+    let k : toZ w64 (ofZ w64 z) ≡ z = toZ-ofZ (search needs) in
+    let f : ltZ (toZ w64 (ofZ w64 z)) (pos 0) ≡ false = c .if1 .left in
+    rw (← c .before .unclipped-lower .ensures, k, rw k at f)
 
 pub lower-spec : {M : Type 1} → statement M
-lower-spec = tie.close (tie.spec add-minus add-minus-2 minus-requires returns)
+lower-spec = tie.close (tie.spec unclipped-lower-requires returns returns-2)

@@ -1,22 +1,42 @@
--- `exchange::upper` meets its contract: the bound is a difference of two sums. Assumes nothing.
-use mathlib.Core.Path.{sym, _∙_}
-use mir.Facts.{toZ-ofZ}
+-- `exchange::upper` meets its contract: the smaller of two numbers. Assumes nothing.
+use mathlib.Core.Path.{_≡_}
+use mathlib.Core.Bool.{true, false}
+use native.Mathlib.Omega.{arith}
 use borrow.Author.Needs.{needs}
-use Rattle.exchange.proofs.BoundLaws.{upper-is}
+use lib.Signed.{ltZ}
+use lib.IntN.{pos}
+use mir.Syntax.{w64}
+use mir.Val.{toZ, ofZ}
+use mir.Facts.{toZ-ofZ, toZ-pos}
+use Rattle.exchange.specs.Bounds.{upperOf}
 use Rattle.exchange.proofs.upper.Statement.{statement}
 use Rattle.exchange.proofs.upper.Tie as tie
 
-add-minus : tie.Need-add-minus
-add-minus c = search needs
+unclipped-upper-requires : tie.Need-unclipped-upper-requires
+unclipped-upper-requires c κs = search needs
 
-add-minus-2 : tie.Need-add-minus-2
-add-minus-2 c = search needs
-
-minus-requires : tie.Need-minus-requires
-minus-requires c κs = search needs
+cast-most : tie.Need-cast-most
+cast-most c = search needs
 
 returns : tie.Need-returns
-returns c = toZ-ofZ (search needs) ∙ c .minus .ensures ∙ sym (upper-is (c .before .args .price) (c .before .args .cost-last) (c .before .args .cost-here) (c .before .args .supplier))
+unfolding upperOf
+returns c =
+    let z = c .before .unclipped-upper .result in
+    let P = c .before .before .args .price in
+    let k : toZ w64 (ofZ w64 z) ≡ z = toZ-ofZ (search needs) in
+    let m : toZ w64 P ≡ pos P = toZ-pos w64 {n = P} (omega arith) in
+    let f : ltZ (toZ w64 (ofZ w64 z)) (toZ w64 P) ≡ true = c .if1 .taken in
+    rw (← c .before .unclipped-upper .ensures, k, rw (k, m) at f)
+
+returns-2 : tie.Need-returns-2
+unfolding upperOf
+returns-2 c =
+    let z = c .before .unclipped-upper .result in
+    let P = c .before .before .args .price in
+    let k : toZ w64 (ofZ w64 z) ≡ z = toZ-ofZ (search needs) in
+    let m : toZ w64 P ≡ pos P = toZ-pos w64 {n = P} (omega arith) in
+    let f : ltZ (toZ w64 (ofZ w64 z)) (toZ w64 P) ≡ false = c .if1 .left in
+    rw (← c .before .unclipped-upper .ensures, m, rw (k, m) at f)
 
 pub upper-spec : {M : Type 1} → statement M
-upper-spec = tie.close (tie.spec add-minus add-minus-2 minus-requires returns)
+upper-spec = tie.close (tie.spec unclipped-upper-requires cast-most returns returns-2)
