@@ -9,12 +9,13 @@ use native.Mathlib.Nat.{le-trans, mul-le-mul-right}
 use native.Mathlib.Decide.{decLe}
 use native.Mathlib.Omega.{arith}
 use borrow.Author.Tests.{leb-false, not-true, not-false}
-use lib.Dec.{T}
+use lib.Dec.{T, leb}
 use lib.IntN.{pos}
 use lib.Signed.{leZ, _≤ℤ_}
 use lib.ListN.{length, getD}
-use Rattle.exchange.specs.Bounds.{upperOf, lowerOf}
+use Rattle.exchange.specs.Bounds.{Terms, upperOf, lowerOf, unclippedUpper, unclippedLower}
 use Rattle.exchange.specs.Deal.{State, Safe}
+use Rattle.exchange.specs.Forms.{ladderTerms}
 use Rattle.exchange.specs.Rule.{reach, rule}
 use Rattle.exchange.specs.Possible.{Possible}
 use Rattle.exchange.specs.Test.{safeTest}
@@ -22,6 +23,7 @@ use Rattle.exchange.specs.Work.{Rising, workOf}
 use Rattle.exchange.specs.declared.Sides.{Sides}
 use Rattle.exchange.proofs.Int.{leZ-true, ≤-sub}
 use Rattle.exchange.proofs.BoundLaws.{lower-is, upper-is, low↔}
+use Rattle.exchange.proofs.Clipped.{clipped-same, possible-same}
 use Rattle.exchange.proofs.Bridge.{lawful, coins-low, reach-floor}
 use Rattle.exchange.proofs.GivenOrder.Farthest.{farthest, farthest-is}
 use Rattle.exchange.proofs.FormLaws.{ladder-rising}
@@ -89,14 +91,31 @@ module _ (s : Sides) (us cs vs : List ℕ) where
         no = λ _ xs p. n (plan-exists (dealAlong s us cs vs) rising (λ a b. refl) .0 (xs, p));
       }
 
-  pub all : Possible (dealAlong s us cs vs) → Decides (dealAlong s us cs vs) true
-  all p = record { yes = λ _. p; no = λ e. absurd (subst T e tt) }
+  -- ---- gaps, between the unclipped bounds
+
+  -- the amounts along the segments
+  abbrev terms : Terms
+  terms = ladderTerms s (spread us cs) (spread us vs)
+
+  -- no gap lies before unit i
+  abbrev pub Joined : ℕ → Type 0
+  Joined i = unclippedLower terms (suc i) ≤ℤ unclippedUpper terms i
+
+  pub possible-joined : Possible (dealAlong s us cs vs) → (i : ℕ) → i < length (spread us cs) → Joined i
+  possible-joined p = possible-same terms rising .0 p .no-gap
+
+  pub all : Safe (dealAlong s us cs vs) 0 0 → ((i : ℕ) → i < length (spread us cs) → Joined i) → Decides (dealAlong s us cs vs) true
+  all h g =
+      record {
+        yes = λ _. possible-same terms rising .1 (record { start-safe = clipped-same terms leb .safe 0 0 .0 h; no-gap = g });
+        no = λ e. absurd (subst T e tt);
+      }
 
   -- the start is safe, and no gap lies before the cursor's place
   pub record Clear (c : Cursor) : Type 0 where
     pub at : At us cs vs c
     pub safe : Safe (dealAlong s us cs vs) 0 0
-    pub no-gap : (i : ℕ) → i < c .place → dealAlong s us cs vs .lower (suc i) ≤ℤ dealAlong s us cs vs .upper i
+    pub no-gap : (i : ℕ) → i < c .place → Joined i
 
   -- ---- by the code's numbers
 
@@ -158,22 +177,19 @@ module _ (s : Sides) (us cs vs : List ℕ) where
       one-value = omega (arith, value-fits us cs vs c o 1 (omega (arith, some)))
 
       -- no gap lies before unit i of them
-      abbrev Joined : ℕ → Type 0
-      Joined i = dealAlong s us cs vs .lower (suc (c .place + i)) ≤ℤ dealAlong s us cs vs .upper (c .place + i)
-
-      joined↔ : (i : ℕ) → i < n → Joined i
+      joined↔ : (i : ℕ) → i < n → Joined (c .place + i)
           ↔ (s .price + (c .value + suc i * getD vs (c .segment) 0) + t .cost
           ≤ s .price + (c .cost + i * getD cs (c .segment) 0) + s .supplier + (t .value + s .buyer))
       joined↔ i l =
           let q : c .place + suc i ≡ suc (c .place + i) = omega arith in
           let g : meet s t (c .cost + i * getD cs (c .segment) 0) (c .value + suc i * getD vs (c .segment) 0)
-          ≡ leZ (dealAlong s us cs vs .lower (suc (c .place + i))) (dealAlong s us cs vs .upper (c .place + i)) =
+          ≡ leZ (unclippedLower terms (suc (c .place + i))) (unclippedUpper terms (c .place + i)) =
           rw (cost-on us cs vs c o i (omega arith), value-on us cs vs c o (suc i) (omega arith), q, k .value-is, k .cost-is) in
           let w = meet↔ (c .cost + i * getD cs (c .segment) 0) (c .value + suc i * getD vs (c .segment) 0) in
           (λ h. w .0 (g ∙ leZ-true _ _ .1 h), λ h. leZ-true _ _ .0 (sym g ∙ w .1 h))
 
       -- the first and the last unit decide
-      all-joined : Joined 0 → Joined (n - 1) → (i : ℕ) → i < n → Joined i
+      all-joined : Joined (c .place + 0) → Joined (c .place + (n - 1)) → (i : ℕ) → i < n → Joined (c .place + i)
       all-joined p q i l =
           let v = getD vs (c .segment) 0 in
           let x = getD cs (c .segment) 0 in
@@ -193,7 +209,7 @@ module _ (s : Sides) (us cs vs : List ℕ) where
       module _ (b : Bool)
           (f : b ≡ (meet s t (c .cost) (c .value + getD vs (c .segment) 0) && meet s t (to .cost - getD cs (c .segment) 0) (to .value))) where
         -- the test of both
-        both↔ : (b ≡ true) ↔ (Joined 0 × Joined (n - 1))
+        both↔ : (b ≡ true) ↔ (Joined (c .place + 0) × Joined (c .place + (n - 1)))
         both↔ =
             let v = getD vs (c .segment) 0 in
             let x = getD cs (c .segment) 0 in
@@ -215,12 +231,12 @@ module _ (s : Sides) (us cs vs : List ℕ) where
             (λ p.
             let here = o .more in
             let end = place-on us cs vs c o n (omega arith) in
-            subst T (sym (both↔ .1 (p .no-gap (c .place + 0) (omega arith), p .no-gap (c .place + (n - 1)) (omega (arith, some)))) ∙ not-true b h) tt)
+            subst T (sym (both↔ .1 (possible-joined p (c .place + 0) (omega arith), possible-joined p (c .place + (n - 1)) (omega (arith, some)))) ∙ not-true b h) tt)
 
         pub clear-next : Clear c → not b ≡ false → Clear to
         clear-next r h = record { at = m .at; safe = r .safe; no-gap = λ i l. before i l (decLe (c .place) i) }
           where
-            before : (i : ℕ) → i < to .place → Dec (c .place ≤ i) → dealAlong s us cs vs .lower (suc i) ≤ℤ dealAlong s us cs vs .upper i
+            before : (i : ℕ) → i < to .place → Dec (c .place ≤ i) → Joined i
             before i l (yes q) =
                 let g : i ≡ c .place + (i - c .place) = omega arith in
                 let w = both↔ .0 (not-false b h) in
@@ -228,7 +244,7 @@ module _ (s : Sides) (us cs vs : List ℕ) where
             before i l (no q) = r .no-gap i (omega arith)
 
     pub clear-all : (c : Cursor) → Clear c → t .units ≤ c .place → Decides (dealAlong s us cs vs) true
-    clear-all c r h = all (record { start-safe = r .safe; no-gap = λ i l. r .no-gap i (le-trans l (rw (k .units-are) at h)) })
+    clear-all c r h = all (r .safe) (λ i l. r .no-gap i (le-trans l (rw (k .units-are) at h)))
 
     -- ---- a delivery
 

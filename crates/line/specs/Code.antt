@@ -7,7 +7,7 @@ use lib.IntN.{pos}
 use lib.ListN.{length, getD, take, drop}
 use lib.Signed.{leZ, _≤ℤ_}
 use Rattle.area.specs.Entries.{entries, remainder}
-use Rattle.exchange.specs.Bounds.{upperOf, lowerOf}
+use Rattle.exchange.specs.Bounds.{unclippedUpperOf, unclippedLowerOf, upperOf, lowerOf}
 use Rattle.exchange.specs.Deal.{Deal, State, Plan, start, ends}
 use Rattle.exchange.specs.Forms.{along}
 use Rattle.exchange.specs.Rule.{reach, ruled}
@@ -71,9 +71,9 @@ pub record There (us cs vs : List ℕ) (c : Cursor) (place : ℕ) : Type 0 where
 abbrev pub origin : Cursor
 origin = record { place = 0; segment = 0; used = 0; cost = 0; value = 0 }
 
--- whether the lower bound of a place with this value is at most the upper bound of one with this cost, by the totals
+-- whether the unclipped lower bound of a place with this value is at most the unclipped upper bound of one with this cost, by the totals
 abbrev pub meet : Sides → Totals → ℕ → ℕ → Bool
-meet s t cost value = leZ (lowerOf (s .price) (t .value) value (s .buyer)) (upperOf (s .price) (t .cost) cost (s .supplier))
+meet s t cost value = leZ (unclippedLowerOf (s .price) (t .value) value (s .buyer)) (unclippedUpperOf (s .price) (t .cost) cost (s .supplier))
 
 -- r of n units of one value make no more than a limit, and one unit more would
 pub record UnitsIn (limit value n r : ℕ) : Type 0 where

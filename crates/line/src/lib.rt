@@ -96,13 +96,14 @@ pub fn is_step(sides: Sides, t: Totals, cost: u32, value: u32, p: u32, q: u32) -
     affords(sides, t, cost, q)
 }
 
-// Whether the lower bound of a place with this value is at most the upper bound of one with this cost.
+// Whether the lower bound of a place with this value is at most the upper bound of one with this cost. Where the start is safe, clipping
+// both changes nothing.
 pub fn meets(sides: Sides, t: Totals, cost: u32, value: u32) -> bool
     ensures { λ r. ⌜ r ≡ meet sides t cost value ⌝ }
 {
-    let lo = exchange::lower(sides.price, t.value, value, sides.buyer);
-    let hi = exchange::upper(sides.price, t.cost, cost, sides.supplier);
-    lo <= hi
+    let lower = exchange::unclipped_lower(sides.price, t.value, value, sides.buyer);
+    let upper = exchange::unclipped_upper(sides.price, t.cost, cost, sides.supplier);
+    lower <= upper
 }
 
 // Whether the start is safe.

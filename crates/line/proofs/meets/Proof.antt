@@ -7,19 +7,19 @@ use borrow.Author.Needs.{needs}
 use Rattle.line.proofs.meets.Statement.{statement}
 use Rattle.line.proofs.meets.Tie as tie
 
-lower-requires : tie.Need-lower-requires
-lower-requires c κs = search needs
+unclipped-lower-requires : tie.Need-unclipped-lower-requires
+unclipped-lower-requires c κs = search needs
 
-upper-requires : tie.Need-upper-requires
-upper-requires c κs = search needs
+unclipped-upper-requires : tie.Need-unclipped-upper-requires
+unclipped-upper-requires c κs = search needs
 
 returns : tie.Need-returns
 returns c =
-    let lo = c .before .lower .result in
-    let hi = c .upper .result in
+    let lo = c .before .unclipped-lower .result in
+    let hi = c .unclipped-upper .result in
     let k : toZ w64 (ofZ w64 lo) ≡ lo = toZ-ofZ (search needs) in
     let m : toZ w64 (ofZ w64 hi) ≡ hi = toZ-ofZ (search needs) in
-    rw (k, m, c .before .lower .ensures, c .upper .ensures)
+    rw (k, m, c .before .unclipped-lower .ensures, c .unclipped-upper .ensures)
 
 pub meets-spec : {M : Type 1} → statement M
-meets-spec = tie.close (tie.spec lower-requires upper-requires returns)
+meets-spec = tie.close (tie.spec unclipped-lower-requires unclipped-upper-requires returns)
