@@ -1,5 +1,6 @@
 -- A ladder planned unit by unit: the scan for a gap, where a delivery stops, and the whole plan. Assumes nothing.
-use mathlib.Core.Path.{_≡_, sym, ap, ap₂, _∙_, subst}
+use mathlib.Core.Path.{_≡_, sym, ap, _∙_, subst}
+use mathlib.Core.Logic.{_↔_}
 use mathlib.Core.Bool.{Bool, true, false, not}
 use mathlib.Core.List.{List}
 use Prim.Native.Nat.{ℕ, suc, _+_, _≤_, _<_, _^_}
@@ -26,6 +27,10 @@ use Rattle.ladder.specs.declared.Ladder.{Ladder}
 use Rattle.ladder.specs.declared.place.Rung.{Rung}
 use Rattle.ladder.proofs.RiseLaws.{known, same-deal, at-bottom, at-top, next-there}
 
+-- no gap lies before unit i
+abbrev Joined : Ladder → List ℕ → ℕ → Type 0
+Joined l s i = deals.Joined (l .sides) (onesIn l) (costsIn l s) (valuesIn l s) i
+
 -- the start is safe, and no gap lies before the rung's place
 abbrev pub Clear : Ladder → List ℕ → Rung → Type 0
 Clear l s c = deals.Clear (l .sides) (onesIn l) (costsIn l s) (valuesIn l s) (cursorOf c)
@@ -42,44 +47,44 @@ module _ (l : Ladder) (s : List ℕ) (p : Lies l s) (cf : l .all .cost < 2 ^ 32)
 
   module _ (c to : Rung) (m : There l s to (c .place + 1)) (b : Bool) (e : b ≡ meet (l .sides) (l .all) (c .cost) (to .value)) where
     -- the test of both places
-    gap-test : At l s c → b ≡ leZ (lineIn l s .lower (suc (c .place))) (lineIn l s .upper (c .place))
+    gap-test : At l s c → (b ≡ true) ↔ Joined l s (c .place)
     gap-test a =
+        let k = known l s p cf vf in
         let q : to .place ≡ suc (c .place) = omega (arith, m .place-is) in
-        e ∙ ap₂ leZ (lower-at to (m .at) ∙ ap (lineIn l s .lower) q)
-        (deals.upper-at (l .sides) (onesIn l) (costsIn l s) (valuesIn l s) (l .all) (known l s p cf vf) (cursorOf c) a)
+        rw (e, k .cost-is, k .value-is, a .cost-is, m .at .value-is, q) (leZ-true _ _)
 
     pub clear-next : Clear l s c → not b ≡ false → Clear l s to
     clear-next r h = record { at = m .at; safe = r .safe; no-gap = λ i q. before i q (decLe (c .place) i) }
       where
-        before : (i : ℕ) → i < to .place → Dec (c .place ≤ i) → lineIn l s .lower (suc i) ≤ℤ lineIn l s .upper i
+        before : (i : ℕ) → i < to .place → Dec (c .place ≤ i) → Joined l s i
         before i q (yes u) =
             let w : i ≡ c .place = omega (arith, m .place-is) in
-            rw w (leZ-true _ _ .0 (sym (gap-test (r .at)) ∙ not-false b h))
+            rw w (gap-test (r .at) .0 (not-false b h))
         before i q (no u) = r .no-gap i (omega arith)
 
     pub gap-none : At l s c → c .place < l .all .units → not b ≡ true → Decides (lineIn l s) false
     gap-none a q h =
         deals.none (l .sides) (onesIn l) (costsIn l s) (valuesIn l s)
         (λ d.
-        let w = d .no-gap (c .place) (omega (arith, known l s p cf vf .units-are)) in
-        subst T (sym (gap-test a ∙ leZ-true _ _ .1 w) ∙ not-true b h) tt)
+        let w = deals.possible-joined (l .sides) (onesIn l) (costsIn l s) (valuesIn l s) d (c .place) (omega (arith, known l s p cf vf .units-are)) in
+        subst T (sym (gap-test a .1 w) ∙ not-true b h) tt)
 
   pub clear-all : (c : Rung) → Clear l s c → l .all .units ≤ c .place → Decides (lineIn l s) true
   clear-all c r h = deals.clear-all (l .sides) (onesIn l) (costsIn l s) (valuesIn l s) (l .all) (known l s p cf vf) (cursorOf c) r h
 
   -- no gap is anywhere where even the lower bound of the last place is at most the upper bound of the start
   pub no-gaps : Safe (lineIn l s) 0 0 → meet (l .sides) (l .all) 0 (l .all .value) ≡ true → Decides (lineIn l s) true
-  no-gaps h e = deals.all (l .sides) (onesIn l) (costsIn l s) (valuesIn l s) (record { start-safe = h; no-gap = each })
+  no-gaps h e = deals.all (l .sides) (onesIn l) (costsIn l s) (valuesIn l s) h each
     where
-      each : (i : ℕ) → i < lineIn l s .last → lineIn l s .lower (suc i) ≤ℤ lineIn l s .upper i
+      each : (i : ℕ) → i < lineIn l s .last → Joined l s i
       each i q =
           let k = known l s p cf vf in
           let cost = sumTo (spread (onesIn l) (costsIn l s)) i in
           let value = sumTo (spread (onesIn l) (valuesIn l s)) (suc i) in
           let meets = deals.meet↔ (l .sides) (onesIn l) (costsIn l s) (valuesIn l s) (l .all) k in
-          let g : meet (l .sides) (l .all) cost value ≡ leZ (lineIn l s .lower (suc i)) (lineIn l s .upper i) = rw (k .value-is, k .cost-is) in
           let most = sum-up (spread (onesIn l) (valuesIn l s)) (suc i) (lineIn l s .last) q in
-          leZ-true _ _ .0 (sym g ∙ meets cost value .1 (omega (arith, meets 0 (l .all .value) .0 e, most, k .value-is)))
+          rw (← (k .value-is), ← (k .cost-is))
+          (leZ-true _ _ .0 (meets cost value .1 (omega (arith, meets 0 (l .all .value) .0 e, most, k .value-is))))
 
   -- ---- a delivery
 
