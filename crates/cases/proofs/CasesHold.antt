@@ -8,7 +8,7 @@ use Rattle.grid.specs.Rows.{rowsOf}
 use Rattle.contract.specs.Res.{ok}
 use Rattle.contract.specs.Contract.{Contract}
 use Rattle.contract.specs.Parse.{parse}
-use Rattle.exchange.specs.Bounds.{upperOf, lowerOf}
+use Rattle.exchange.specs.Bounds.{unclippedUpperOf, unclippedLowerOf, upperOf, lowerOf}
 use Rattle.exchange.specs.Chosen.{together}
 use Rattle.exchange.specs.Choice.{sumOver, allItems, fits, better, best, placed, bothEnds, choose}
 use Rattle.exchange.specs.Forms.{along, occurs, holdsRow}
@@ -40,7 +40,7 @@ bounds-are bytes k read x low high e = record { claim = tt; only = rw read e }
 
 -- each answer is computed here, from the table's own numbers
 answers : AllRight cases
-unfolding upperOf lowerOf along orderIn together safeTest stepTest allBelow areSteps isPlan possible allGo endsFirst namesEach allZero eachOnce occurs sumOver allItems fits better best placed bothEnds choose rowsOf holdsRow leastFloor need firstOf count forward forwards moves awaited session.fits done settle reportOn
+unfolding unclippedUpperOf unclippedLowerOf upperOf lowerOf along orderIn together safeTest stepTest allBelow areSteps isPlan possible allGo endsFirst namesEach allZero eachOnce occurs sumOver allItems fits better best placed bothEnds choose rowsOf holdsRow leastFloor need firstOf count forward forwards moves awaited session.fits done settle reportOn
 answers =
     (λ a.
     bounds-are _ _ a _ _ _ refl
@@ -53,7 +53,7 @@ answers =
     and tt)
     and (λ b. ladder-none _ _ _ _ b refl and tt)
     and (λ c. ladder-plan _ _ _ _ c _ (record { safe = refl; by-rule = refl; first = refl }) and tt)
-    and (λ d. ladder-none _ _ _ _ d refl and tt)
+    and (λ d. bounds-are _ _ d _ _ _ refl and ladder-none _ _ _ _ d refl and tt)
     and (λ e. ladder-plan _ _ _ _ e _ (record { safe = refl; by-rule = refl; first = refl }) and tt)
     and (λ f.
     table-plan _ _ _ _ _ f _ (record { safe = refl; counted = refl; within = omega arith; found = refl })

@@ -180,9 +180,9 @@ caseA =
       bytes = ladderBytes 10 3;
       says = ok (ladderOf 10 3);
       questions =
-          bounds 0 (negℤ (pos 5)) (pos 3)
+          bounds 0 (pos 0) (pos 3)
           ∷ bounds 1 (pos 1) (pos 7)
-          ∷ bounds 2 (pos 7) (pos 11)
+          ∷ bounds 2 (pos 7) (pos 10)
           ∷ plan noOrder planA
           ∷ session planA reportsI
           ∷ unsafe (at 0 3 ∷ at 2 3 ∷ at 2 10 ∷ []) 12
@@ -202,8 +202,8 @@ cases =
       says = ok (ladderOf 7 3);
       questions = plan noOrder (at 1 0 ∷ at 1 4 ∷ at 2 4 ∷ at 2 7 ∷ []) ∷ [];
     }
-    -- D, A with P 6
-    ∷ record { bytes = ladderBytes 6 3; says = ok (ladderOf 6 3); questions = noPlan 9 ∷ [] }
+    -- D, A with P 6; the upper bound of the start is negative
+    ∷ record { bytes = ladderBytes 6 3; says = ok (ladderOf 6 3); questions = bounds 0 (pos 0) (negℤ (pos 1)) ∷ noPlan 9 ∷ [] }
     -- E
     ∷ record { bytes = freeBytes; says = ok freeOf; questions = plan noOrder (at 1 0 ∷ []) ∷ [] }
     -- F; of the last two plans one would take back the units of row 2, all else in it being safe, and one names a row that is not there
@@ -229,7 +229,7 @@ cases =
     ∷ record { bytes = take 31 (ladderBytes 10 3); says = refused 1; questions = noPlan 1 ∷ [] }
     ∷ record { bytes = ladderBytes 10 3 ++ (0 ∷ []); says = refused 7; questions = noPlan 7 ∷ [] }
     -- L
-    ∷ record { bytes = blankBytes; says = ok blankOf; questions = bounds 0 (negℤ (pos 2)) (pos 2) ∷ plan noOrder (at 1 2 ∷ at 1 6 ∷ at 3 6 ∷ []) ∷ [] }
+    ∷ record { bytes = blankBytes; says = ok blankOf; questions = bounds 0 (pos 0) (pos 2) ∷ plan noOrder (at 1 2 ∷ at 1 6 ∷ at 3 6 ∷ []) ∷ [] }
     -- M
     ∷ record { bytes = fourBytes; says = ok fourOf; questions = plan (2 ∷ 1 ∷ 3 ∷ 4 ∷ 0 ∷ 0 ∷ 0 ∷ 0 ∷ []) planM ∷ [] }
     -- the stock figure

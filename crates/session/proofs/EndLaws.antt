@@ -15,7 +15,7 @@ use Rattle.contract.specs.declared.Form.{Form}
 use Rattle.contract.specs.declared.Form.the-variants.{Ladder, UnitPrices, Table}
 use Rattle.exchange.specs.Bounds.{Terms}
 use Rattle.exchange.specs.Deal as deal
-use Rattle.exchange.specs.Forms.{along, line, holdsRow, table}
+use Rattle.exchange.specs.Forms.{termsOf, ladderTerms, orderTerms, holdsRow}
 use Rattle.exchange.specs.declared.Sides.{Sides}
 use Rattle.exchange.proofs.BoundLaws.{safe↔}
 use Rattle.exchange.proofs.TablePlan.RowUnits.{unitsOf, units-rise, units-last}
@@ -51,29 +51,11 @@ table-top us b h t = go (ℕ-discrete (rowsOf us - 1) b)
         let m = units-rise us (rowsOf us - 1) b (omega arith) (omega arith) t n in
         absurd (omega (arith, m, units-last us, units-within us b))
 
-module _ (p : Sides) where
-  line-ending : (n : ℕ) (cost value : ℕ → ℕ) → Ending (line p n cost value)
-  line-ending n cost value =
-      terms-ending (record { price = p .price; supplier = p .supplier; buyer = p .buyer; last = n; cost = cost; value = value }) leb (line-top n)
-
-  table-ending : (us costs values : List ℕ) → Ending (table p us costs values)
-  table-ending us costs values =
-      terms-ending
-      (record {
-        price = p .price;
-        supplier = p .supplier;
-        buyer = p .buyer;
-        last = rowsOf us - 1;
-        cost = λ r. getD costs r 0;
-        value = λ r. getD values r 0;
-      })
-      (holdsRow us)
-      (table-top us)
-
-  form-ending : (f : Form) (units costs values σ : List ℕ) → Ending (dealFor f p units costs values σ)
-  form-ending Ladder units costs values σ = line-ending (length costs) (along (λ c. c) costs) (along (λ v. v) values)
-  form-ending UnitPrices units costs values σ = line-ending (length σ) (along (λ j. getD costs j 0) σ) (along (λ j. getD values j 0) σ)
-  form-ending Table units costs values σ = table-ending units costs values
+form-ending : (p : Sides) (f : Form) (units costs values σ : List ℕ) → Ending (dealFor f p units costs values σ)
+form-ending p Ladder units costs values σ = terms-ending (ladderTerms p costs values) leb (line-top (length costs))
+form-ending p UnitPrices units costs values σ = terms-ending (orderTerms p costs values σ) leb (line-top (length σ))
+form-ending p Table units costs values σ =
+    terms-ending (termsOf p (rowsOf units - 1) (λ r. getD costs r 0) (λ r. getD values r 0)) (holdsRow units) (table-top units)
 
 -- every deal of a contract ends so
 pub contract-ending : (k : Contract) (σ : List ℕ) → Ending (dealOf k σ)
