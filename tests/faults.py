@@ -24,7 +24,6 @@ PLANNING = (
     ("lower bound with the buyer's leaving cost added", "+ value - header.buyer", "+ value + header.buyer"),
     ("a plan of one step where the start is not safe", UNSAFE_START,
      UNSAFE_START.replace("None", "[(deal.last, deal.price)]")),
-    ("a payment above the price", "- 1, min(deal.upper[place], deal.price)", "- 1, deal.upper[place]"),
     ("delivers one place less far", "bisect_right(deal.lower, paid) - 1", "max(place, bisect_right(deal.lower, paid) - 2)"),
     ("a delivery tested by the payment of its own step", "deal.lower[higher] <= paid and", "deal.lower[higher] <= pays and"),
     ("a step may take units back", "if b > self.last or q < p or not self.holds(b, a):", "if b > self.last or q < p:"),
@@ -51,6 +50,18 @@ PLANNING = (
     ("bytes after a session are cut off", "+ bytes(marks) + area[SESSION_SIZE:]", "+ bytes(marks)"),
 )
 
+# planning.py: bounds clipped to what a cashier can read; the answer alone, or all that cites them
+
+ANSWERED = "    return deal.lower[place], deal.upper[place]\n"
+LOWER, UPPER = "[max(bound, 0) for bound in lower]", "[min(bound, price) for bound in upper]"
+
+CLIPPED = (
+    ("lower bound left below 0", LOWER, "lower"),
+    ("upper bound left above the price", ANSWERED, ANSWERED.replace("deal.upper", "unclipped_bounds(contract, items)[1]")),
+    ("negative upper bound clipped to 0", ANSWERED, ANSWERED.replace("deal.upper[place]", "max(deal.upper[place], 0)")),
+    ("a payment above the price", UPPER, "upper"),
+)
+
 # planning.py: the order for unit prices, and the rows of a table
 
 FORWARDS = "    forwards = [Pick(item, units, cost - value, value) for item, units, cost, value in items if cost >= value]\n"
@@ -66,7 +77,8 @@ OWN_ORDER = ORDER + '''\
         order = tuple(sorted(order))
 '''
 SUCCESSORS = "for higher in above[row]:"
-PAYS = "        pays = min(deal.upper[row], deal.price)\n"
+PAYS = "        pays = deal.upper[row]\n"
+GAPS = "upper[0] - lower[0], upper[-1] - lower[-1]\n"
 
 CHOICE = (
     ("the items' own order where it has a plan", ORDER, OWN_ORDER),
@@ -85,6 +97,9 @@ CHOICE = (
     ("the bound at the item's other end", ADMITTED, ADMITTED.replace("<= gap", "<= gap + pick.units * pick.gain")),
     ("the bound not moved on", *dropped(MOVED_ON)),
     ("the bound moved on by one unit", MOVED_ON, MOVED_ON.replace("best.units * ", "")),
+    ("clipped bounds for the front", GAPS, GAPS.replace("upper[0] - lower[0]", "min(upper[0], header.price) - max(lower[0], 0)")),
+    ("clipped bounds for the last places", GAPS,
+     GAPS.replace("upper[-1] - lower[-1]", "min(upper[-1], header.price) - max(lower[-1], 0)")),
     ("the bound at the end for the front", PICKED, PICKED.replace("gap_at_start", "gap_at_end")),
     ("the bound at the start for the last places", PICKED, PICKED.replace("gap_at_end", "gap_at_start")),
     ("the cost as the need from the front", FORWARDS, FORWARDS.replace("value, value)", "value, cost)")),
@@ -253,5 +268,6 @@ WRITING = (
 )
 
 # the C library has ways of its own to a record, so the reader's rules have to be tried there too
-GROUPS = ((PLANNING, "planning", ("plans",)), (CHOICE, "planning", ("plans",)), (SPARING, "sparing", ("plans",)),
-          (READING, "record", ("records", "plans")), (LENGTHS, "record", ("records",)), (WRITING, "record", ("records",)))
+GROUPS = ((PLANNING, "planning", ("plans",)), (CLIPPED, "planning", ("plans",)), (CHOICE, "planning", ("plans",)),
+          (SPARING, "sparing", ("plans",)), (READING, "record", ("records", "plans")), (LENGTHS, "record", ("records",)),
+          (WRITING, "record", ("records",)))

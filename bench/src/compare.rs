@@ -70,10 +70,14 @@ struct Case<'a> {
 impl Case<'_> {
     /// `sample` is what the record says, unless it is damaged.
     fn all(&mut self, sample: Option<&Sample>) {
-        let (steps, planned) = self.plan("plan", self.deal.areas(0), Program::plan_into);
+        let (steps, mut planned) = self.plan("plan", self.deal.areas(0), Program::plan_into);
         self.tally.plans += (steps > 0) as u64;
         if let Some(sample) = sample {
             self.search(sample, steps);
+            if steps < 0 {
+                // No order was left, and with a wrong one nothing would be answered of deals that have no plan.
+                planned.order = sample.order();
+            }
         }
         let lent = self.varied();
         self.plan("plan", lent, Program::plan_into);

@@ -15,14 +15,14 @@ struct Places {
 fn places(terms: Terms, levels: &[(i64, i64)], units: Vec<Vec<usize>>) -> Places {
     let last = levels[levels.len() - 1];
     let price = terms.price as i64;
-    let lower = levels.iter().map(|level| price - last.1 + level.1 - terms.buyer as i64).collect();
-    let upper = levels.iter().map(|level| price - last.0 + level.0 + terms.supplier as i64).collect();
+    let lower = levels.iter().map(|level| (price - last.1 + level.1 - terms.buyer as i64).max(0)).collect();
+    let upper = levels.iter().map(|level| (price - last.0 + level.0 + terms.supplier as i64).min(price)).collect();
     Places { price, lower, upper, units }
 }
 
 impl Places {
     fn safe(&self, place: usize, paid: i64) -> bool {
-        self.lower[place] <= paid && paid <= self.upper[place] && 0 <= paid && paid <= self.price
+        self.lower[place] <= paid && paid <= self.upper[place]
     }
 
     fn holds(&self, place: usize, other: usize) -> bool {
@@ -42,7 +42,7 @@ impl Places {
         for steps in 1.. {
             let mut next = best.clone();
             for (from, paid) in best.iter().enumerate().filter_map(|(place, paid)| Some((place, (*paid)?))) {
-                let sum = self.upper[from].min(self.price);
+                let sum = self.upper[from];
                 for to in 0..=last {
                     if self.is_step((from, paid), (to, sum)) {
                         next[to] = next[to].max(Some(sum));

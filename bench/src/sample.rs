@@ -17,6 +17,14 @@ pub struct Sample {
     pub content: Content,
 }
 
+impl Sample {
+    /// Right order bytes: with unit prices the items by number, else zeros.
+    pub fn order(&self) -> Vec<u8> {
+        let items = if let Content::Items(items) = &self.content { items.len() as u8 } else { 0 };
+        (1..=8).map(|item| if item <= items { item } else { 0 }).collect()
+    }
+}
+
 /// Amounts are random numbers up to `most`, times `unit`.
 struct Scale {
     most: u64,

@@ -9,7 +9,7 @@ have after k steps.
 Plans without repeated states are enough: a step that moves nothing only delays what follows.
 """
 from dataclasses import dataclass
-from itertools import permutations, product
+from itertools import compress, permutations, product
 from typing import NamedTuple
 
 from record import LADDER, TABLE, UNIT_PRICES
@@ -182,12 +182,17 @@ class Pick(NamedTuple):
         return min(admitted, key=lambda offer: (-offer.surplus, offer.item), default=None)
 
 
-def upper(world, place):
-    return world.header.price - world.costs[-1] + world.costs[place] + world.header.supplier
+def unclipped_bounds(world, place):
+    """Lower and upper."""
+    header = world.header
+    return (header.price - world.values[-1] + world.values[place] - header.buyer,
+            header.price - world.costs[-1] + world.costs[place] + header.supplier)
 
 
-def lower(world, place):
-    return world.header.price - world.values[-1] + world.values[place] - world.header.buyer
+def bounds(world, place):
+    """The paper: "the lower bound answered becomes the greater of itself and 0, the upper bound the smaller of itself and P"."""
+    lower, upper = unclipped_bounds(world, place)
+    return max(lower, 0), min(upper, world.header.price)
 
 
 def sides(contract, items):
@@ -197,23 +202,24 @@ def sides(contract, items):
             [Offer(item, value - cost, cost) for item, cost, value in amounts if cost < value])
 
 
-def picks(contract, items):
-    """For each item in turn, out of what it was taken: itself and those of its side that follow; from behind those before it."""
+def picks(contract, items, cited=unclipped_bounds):
+    """For each item in turn, out of what it was taken: itself and those of its side that follow; from behind those before it. The
+    paper: the difference "is still taken between the unclipped bounds"."""
     first, others = sides(contract, items)
     world = own_world(contract, items)
     places = [sum(contract.header.units[item - 1] for item in items[:k]) for k in range(len(items) + 1)]
-    room = [upper(world, place) - lower(world, place) for place in places]
+    room = [upper - lower for lower, upper in (cited(world, place) for place in places)]
     n = len(first)
     return ([Pick(FRONT, first[k:], room[k]) for k in range(n)]
             + [Pick(BEHIND, others[:k], room[n + k]) for k in range(1, len(others) + 1)])
 
 
-def is_chosen(contract, items):
+def is_chosen(contract, items, cited=unclipped_bounds):
     """Whether both sides stand in their places and each item is the one that is taken there."""
     first, others = sides(contract, items)
     standing = first + others
     return ([offer.item for offer in standing] == list(items)
-            and [pick.taken() for pick in picks(contract, items)] == standing)
+            and [pick.taken() for pick in picks(contract, items, cited)] == standing)
 
 
 def judged_order(contract, found):
@@ -243,7 +249,7 @@ def judged(contract, found):
     if contract.header.form == TABLE:
         rows, sums = zip(*steps)
         yield "the earliest rows", list(rows), earliest_rows(world, ways, len(steps))
-        yield "the payments", list(sums), [min(upper(world, row), world.header.price) for row in (0, *rows[:-1])]
+        yield "the payments", list(sums), [bounds(world, row)[1] for row in (0, *rows[:-1])]
         return
     for k, (ours, ahead) in enumerate(zip([START, *steps], greatest(rivals))):
         yield f"ahead along our order after {k} steps", ours[0] >= ahead[0] and ours[1] >= ahead[1], True
@@ -330,8 +336,9 @@ def starts_kind(contract, found):
 # Kinds of deals that have to come up where plans and orders are judged
 
 TIE, WAITS, SEGMENTS, LATER_ROWS = "tie", "greater surplus waits", "other by whole segments", "later rows in as many steps"
+CLIPPED = "other by clipped bounds, or none"
 KINDS = {LADDER: (), TABLE: (LATER_ROWS,),
-         UNIT_PRICES: (*(f"{kind} {side}" for kind in (TIE, WAITS) for side in (FRONT, BEHIND)), SEGMENTS)}
+         UNIT_PRICES: (*(f"{kind} {side}" for kind in (TIE, WAITS) for side in (FRONT, BEHIND)), SEGMENTS, CLIPPED)}
 
 
 def kinds(contract, found):
@@ -344,6 +351,8 @@ def kinds(contract, found):
 def order_kinds(contract, items):
     """A tie is one of the greatest surplus that is admitted. A greater surplus waits while it is not admitted."""
     seen = {SEGMENTS} if whole_segments(contract) != items else set()
+    if not is_chosen(contract, items, bounds):
+        seen.add(CLIPPED)
     for pick in picks(contract, items):
         best = pick.taken()
         others = [offer for offer in pick.offers if offer != best]
@@ -382,3 +391,14 @@ def sequenced(segments, room):
         order.append(max(feasible, key=lambda item: segments[item][0]))  # the first of equal ones
         room += segments.pop(order[-1])[0]
     return order
+
+
+# Kinds of bounds that have to come up where they are answered
+
+BOUNDS_KINDS = "lower bound below 0", "upper bound above P", "negative upper bound", "bounds left alone"
+
+
+def bounds_kinds(price, lower, upper):
+    """Of which kinds the unclipped bounds of a place are."""
+    of_kind = lower < 0, upper > price, upper < 0, lower >= 0 and 0 <= upper <= price
+    return set(compress(BOUNDS_KINDS, of_kind))

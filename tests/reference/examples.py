@@ -98,7 +98,7 @@ def case_a_and_its_changes():
     rises = "Rises of cost and value: (4, 6), (4, 6)."
     return [
         Example("case-a", ladder(CASE_A, CASE_A_RISES), 0, ("Case A: ladder, P 10, cs 1, cd 3.", rises),
-                ("Upper bounds 3, 7, 11; lower bounds -5, 1, 7.", "The printer writes:",
+                ("Upper bounds 3, 7, 10; lower bounds 0, 1, 7.", "The printer writes:",
                  "steps 5", "1 0 3", "2 1 3", "3 1 7", "4 2 7", "5 2 10")),
         Example("case-b", ladder((10, 1, 2), CASE_A_RISES), 0, ("Case B: case A with cd 2.", rises),
                 ("Planning: refused 9.",)),

@@ -47,7 +47,8 @@ class Deal:
         return all(m >= n for m, n in zip(self.held[place], self.held[other]))
 
     def safe(self, place, paid):
-        return 0 <= paid <= self.price and self.lower[place] <= paid <= self.upper[place]
+        """Clipped bounds admit no sum below 0 and none above P."""
+        return self.lower[place] <= paid <= self.upper[place]
 
     def is_step(self, before, after):
         """The paper's step: nothing is taken back, and all four states are safe."""
@@ -63,12 +64,23 @@ class Deal:
 
 
 def deal_of(contract, order=()):
-    """The deal of a contract; order lists the items from 1, for unit prices only."""
+    """The deal of a contract; order lists the items from 1, for unit prices only.
+
+    The paper: "the lower bound answered becomes the greater of itself and 0, the upper bound the smaller of itself and P";
+    "all else that cites the bounds cites the new ones".
+    """
+    price = contract.header.price
+    lower, upper = unclipped_bounds(contract, order)
+    return Deal(price, [max(bound, 0) for bound in lower], [min(bound, price) for bound in upper], held_units(contract))
+
+
+def unclipped_bounds(contract, order):
+    """The lower and the upper bounds of all places; only the choice of an order cites them unclipped."""
     header = contract.header
     costs, values = place_totals(contract, order)
     lower = [header.price - values[-1] + value - header.buyer for value in values]
     upper = [header.price - costs[-1] + cost + header.supplier for cost in costs]
-    return Deal(header.price, lower, upper, held_units(contract))
+    return lower, upper
 
 
 def place_totals(contract, order):
@@ -199,14 +211,15 @@ def steps_onwards(deal, state):
 
 def rule_step(deal, state):
     """The paper: "each step delivers to the greatest place whose lower bound is at most p, and pays to the smaller of
-    upper(a) and P".
+    upper(a) and P", which clipped is upper(a).
     """
     place, paid = state
     # lower bounds never fall along an order, so the places within reach are the first ones
-    return bisect_right(deal.lower, paid) - 1, min(deal.upper[place], deal.price)
+    return bisect_right(deal.lower, paid) - 1, deal.upper[place]
 
 
-# The order for unit prices. The gap is upper less lower; the next unit is safe exactly if its value is at most the gap.
+# The order for unit prices. The gap is upper less lower, "still taken between the unclipped bounds"; the next unit is safe
+# exactly if its value is at most the gap.
 
 def chosen_order(contract):
     """The items in the order that the paper picks, or None if no order is safe from unit to unit."""
@@ -230,8 +243,8 @@ def picked_order(contract):
     """
     header = contract.header
     items = list(zip(range(1, header.count + 1), item_units(contract), contract.costs, contract.values))
-    gap_at_end = header.supplier + header.buyer
-    gap_at_start = gap_at_end - sum(units * (cost - value) for _, units, cost, value in items)
+    lower, upper = unclipped_bounds(contract, range(1, header.count + 1))  # at both ends the same in every order
+    gap_at_start, gap_at_end = upper[0] - lower[0], upper[-1] - lower[-1]
     forwards = [Pick(item, units, cost - value, value) for item, units, cost, value in items if cost >= value]
     backwards = [Pick(item, units, value - cost, cost) for item, units, cost, value in items if cost < value]
     first, last = picked(forwards, gap_at_start), picked(backwards, gap_at_end)
@@ -283,7 +296,7 @@ def fewest_steps(deal):
         if state == end:
             return path_to(end, came_from)
         row, paid = state
-        pays = min(deal.upper[row], deal.price)
+        pays = deal.upper[row]
         for higher in above[row]:
             if deal.lower[higher] <= paid and (higher, pays) not in came_from:
                 came_from[higher, pays] = state

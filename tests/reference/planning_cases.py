@@ -447,7 +447,7 @@ def slower(rng, deal, steps):
     while path[-1] != (deal.last, deal.price) and len(path) < 3 * len(steps) + 4:
         a, p = path[-1]
         delivered = max(b for b in range(deal.last + 1) if deal.is_step((a, p), (b, p)))
-        path.append((delivered, min(deal.upper[a], deal.price)))
+        path.append((delivered, deal.upper[a]))
     return path[1:]
 
 

@@ -8,7 +8,7 @@ import random
 import struct
 import sys
 from collections import Counter
-from itertools import islice
+from itertools import islice, permutations
 
 import brute
 import planning
@@ -106,12 +106,14 @@ def areas(steps):
 def paper_cases():
     expect(len(A), 32, "A's record has 32 bytes")
     expect(A, ladder((10, 1, 3), A_RISES), "A's record")
-    expect([planning.bounds(A, place, ZEROS) for place in range(3)], [(-5, 3), (1, 7), (7, 11)], "A's bounds")
+    expect([planning.bounds(A, place, ZEROS) for place in range(3)], [(0, 3), (1, 7), (7, 10)], "A's bounds")
     expect(planning.bounds(A, 3, ZEROS), refused(5), "A's bounds beyond the last place")
     expect(planned(A), steps_reply(A_STEPS), "A")
     expect(planned(ladder((10, 1, 2), A_RISES)), refused(9), "B")
     expect(planned(ladder((7, 1, 3), A_RISES)), steps_reply([(1, 0), (1, 4), (2, 4), (2, 7)]), "C")
-    expect(planned(ladder((6, 1, 3), A_RISES)), refused(9), "D")
+    d = ladder((6, 1, 3), A_RISES)
+    expect(planned(d), refused(9), "D")
+    expect([planning.bounds(d, place, ZEROS) for place in range(3)], [(0, -1), (0, 3), (3, 6)], "D's bounds, a negative one too")
     expect(planned(ladder((0, 0, 0), [(0, 0)])), steps_reply([(1, 0)]), "E")
     expect(planned(F), steps_reply([(1, 5), (1, 10), (4, 10), (4, 22), (9, 22)]), "F, its earliest rows")
     expect(planning.check(F, 5, *areas([(2, 5), (3, 14), (4, 18), (4, 22), (9, 22)]), ZEROS), 0, "F, the printed plan")
@@ -172,6 +174,18 @@ def orders_by_hand():
     expect(segments, [(1, 2, 4, 3), (3, 5, 2, 1, 4)], "document 000's rule has other orders, for its own stock figure too")
 
 
+def orders_by_unclipped_bounds():
+    """What each order would be, if the difference were taken between the clipped bounds."""
+    for clipped, deal, items, wanted in (
+            ([], (3, 2, 0), [(1, 5, 5), (1, 0, 100)], (1, 2)),
+            ([(2, 1)], (1, 2, 1), [(1, 2, 1), (1, 1, 0)], (1, 2)),
+            ([(1, 2)], (1, 1, 0), [(1, 1, 2), (1, 0, 1)], (2, 1))):
+        data = unit_prices(deal, items)
+        expect(planned(data)[::2], ("steps", order_of(*wanted)), f"the order by unclipped bounds: {deal} {items}")
+        by_clipped = [some for some in permutations((1, 2)) if brute.is_chosen(record.parse(data), some, brute.bounds)]
+        expect(by_clipped, clipped, f"the orders by clipped bounds: {deal} {items}")
+
+
 def refusals_and_areas():
     """The order of the refusals, and every byte of the areas after each kind of reply."""
     lent = b"\7" * 13, b"\7" * 23, b"\7" * 9, b"\7" * 3
@@ -188,7 +202,7 @@ def refusals_and_areas():
     for number in (1, 2, 3, 4, 5, 6, 7, 8):
         expect(planning.areas_after(A, refused(number), *lent), lent, f"areas after {number}")
     g, two, one = unit_prices((8, 1, 2), G_ITEMS), order_of(2, 1), order_of(1, 1)
-    expect([planning.bounds(g, place, two) for place in range(3)], [(-3, 1), (3, 4), (6, 9)], "G's bounds, other order")
+    expect([planning.bounds(g, place, two) for place in range(3)], [(0, 1), (3, 4), (6, 8)], "G's bounds, other order")
     expect(planning.bounds(g, 1, two + b"\5"), (3, 4), "a ninth order byte does not count")
     expect((planning.bounds(g, 3, one[:7]), planning.bounds(g, 3, one), planning.bounds(g, 2, one)),
            (refused(8), refused(5), refused(12)), "8, then 5, then 12")
@@ -303,6 +317,37 @@ def tiny_deals(rng):
         all_kinds(seen, brute.KINDS[form], TINY_DEALS)
 
 
+def tiny_bounds(rng):
+    """Each kind of bounds has to come up."""
+    for form in (LADDER, UNIT_PRICES, TABLE):
+        seen = Counter()
+        for _ in range(TINY_DEALS):
+            seen.update(set(bounds_of_deal(rng, planning_cases.tiny_deal(rng, form))))
+        all_kinds(seen, brute.BOUNDS_KINDS, TINY_DEALS)
+
+
+def bounds_of_deal(rng, contract):
+    """The sums between the bounds answered are the safe ones; so are those between the unclipped bounds with 0 <= paid <= P. A
+    negative upper bound is answered as it is. Of which kinds the bounds are."""
+    price = contract.header.price
+    data = record.write(contract.header, contract.costs, contract.values, ROOM)
+    order = planning_cases.some_order(rng, contract)
+    world = brute.own_world(contract, planning.items_in(contract, order))
+    for place, safe in enumerate(brute.safe_sums(world)):
+        what = f"place {place}, order {order}: {contract}"
+        answered, unclipped = planning.bounds(data, place, order), brute.unclipped_bounds(world, place)
+        expect(answered, brute.bounds(world, place), f"bounds, {what}")
+        expect(between(*answered), safe, f"sums between the bounds, {what}")
+        expect(between(*unclipped) & between(0, price), safe, f"sums between the unclipped bounds, {what}")
+        if unclipped[1] < 0:
+            expect(answered[1], unclipped[1], f"a negative upper bound, {what}")
+        yield from brute.bounds_kinds(price, *unclipped)
+
+
+def between(lower, upper):
+    return set(range(lower, upper + 1))
+
+
 def middle_tables(rng):
     left = MIDDLE_DEALS
     while left:
@@ -360,18 +405,17 @@ def rows_by_needs(contract):
     """The rows of the table plan once more, from the end: how much must be paid in a row to end in k more steps."""
     deal = planning.deal_of(contract)
     above = [[b for b in range(deal.last + 1) if deal.holds(b, a)] for a in range(deal.last + 1)]
-    pays = [min(upper, deal.price) for upper in deal.upper]
     needs = [{deal.last: deal.price}]
     while needs[-1].get(0, 1) > 0 and len(needs) <= 2 * planning.all_units(contract) + 1:
         needs.append({a: min(ways) for a in range(deal.last + 1)
-                      if (ways := [deal.lower[b] for b in above[a] if b in needs[-1] and needs[-1][b] <= pays[a]])})
+                      if (ways := [deal.lower[b] for b in above[a] if b in needs[-1] and needs[-1][b] <= deal.upper[a]])})
     if needs[-1].get(0, 1) > 0 or not deal.safe(*planning.START):
         return None
     rows, row, paid = [], 0, 0
     for need in reversed(needs[:-1]):
-        after = next(b for b in above[row] if deal.lower[b] <= paid and need.get(b, deal.price + 1) <= pays[row])
+        after = next(b for b in above[row] if deal.lower[b] <= paid and need.get(b, deal.price + 1) <= deal.upper[row])
         rows.append(after)
-        row, paid = after, pays[row]
+        row, paid = after, deal.upper[row]
     return rows
 
 
@@ -380,6 +424,17 @@ def can_be_planned(contract):
     cost, value = planning_cases.whole_rises(contract)
     start_is_safe = cost - header.supplier <= header.price <= value + header.buyer
     return start_is_safe and header.supplier + header.buyer >= planning_cases.least_leaving_costs(contract)
+
+
+def generated_bounds(seed):
+    """Each kind of bounds has to come up."""
+    seen = Counter()
+    for case in planning_cases.bounds_cases(seed):
+        if planning.bounds(case.record, case.place, case.order)[0] != "refused":
+            contract = record.parse(case.record)
+            lower, upper = planning.unclipped_bounds(contract, planning.items_in(contract, case.order))
+            seen.update(["answers", *brute.bounds_kinds(contract.header.price, lower[case.place], upper[case.place])])
+    all_kinds(seen, brute.BOUNDS_KINDS, seen["answers"])
 
 
 def generated_sessions(seed):
@@ -476,13 +531,16 @@ def main():
     case_i()
     other_cases()
     orders_by_hand()
+    orders_by_unclipped_bounds()
     refusals_and_areas()
     sparing_cases_by_hand()
     sparing_refusals_and_areas()
     tiny_deals(rng)
+    tiny_bounds(rng)
     middle_tables(rng)
     sparing_deals(rng)
     generated_plans(seed)
+    generated_bounds(seed)
     generated_sessions(seed)
     print(f"{passed} checks passed")
 

@@ -72,9 +72,9 @@ fn follow<P: Places>(frame: &Frame, places: &P, last: usize, steps: (&[[u8; 2]],
     let mut paid = 0;
     for (place, sum) in steps.0.iter().zip(steps.1) {
         let sum = u32::from_le_bytes(*sum) as i64;
-        let most = frame.upper(at.level).min(frame.price);
+        let most = frame.upper(at.level);
         at = places.to(at, u16::from_le_bytes(*place) as usize).ok_or(UNSAFE)?;
-        if sum < paid || sum > most || frame.lower(at.level) > paid {
+        if sum < paid || sum > most || !frame.allows(paid, at.level) {
             return Err(UNSAFE);
         }
         paid = sum;
@@ -115,7 +115,7 @@ fn ladder_level(ladder: &Ladder, place: usize) -> Level {
     Level { cost: ladder.all.cost - after.cost, value: ladder.all.value - after.value }
 }
 
-/// The lower and the upper bound of a place.
+/// The lower and the upper bound of a place, clipped.
 pub fn bounds(record: &[u8], place: usize, order: &[u8], long_enough: bool) -> Result<(i64, i64), u32> {
     let (terms, form, rest) = head(record)?;
     let areas = |last| {

@@ -8,11 +8,11 @@ pub type Order = [u8; 8];
 
 /// The order in which the items are delivered, or none if no order of the units admits a plan.
 ///
-/// The room is the upper bound less the lower bound. A unit can be delivered if its value is at most the room before it,
-/// that is, if its cost is at most the room after it. Items that do not lessen the room come first, always the one that
-/// widens it most among those that can be delivered. Read backwards, the others widen the room as well, with cost and
-/// value exchanged: they are placed in the same way from the end. An item that can be delivered keeps that while the
-/// room grows, so whichever is taken, the others are not worse off, and no order does better.
+/// The room is the upper bound less the lower bound, both unclipped. A unit can be delivered if its value is at most the
+/// room before it, that is, if its cost is at most the room after it. Items that do not lessen the room come first, always
+/// the one that widens it most among those that can be delivered. Read backwards, the others widen the room as well, with
+/// cost and value exchanged: they are placed in the same way from the end. An item that can be delivered keeps that while
+/// the room grows, so whichever is taken, the others are not worse off, and no order does better.
 pub fn choose(items: &Items, frame: &Frame) -> Option<Order> {
     let (mut first, mut last) = (Waiting::default(), Waiting::default());
     for (item, run) in items.runs[..items.count].iter().enumerate() {

@@ -104,13 +104,13 @@ pub fn run<L: Line>(frame: &Frame, line: &L, last: usize, plan: &mut Writer) {
     let mut at = line.start();
     let mut paid = 0;
     while paid < frame.last_lower {
-        let sum = frame.upper(at.level).min(frame.price);
+        let sum = frame.upper(at.level);
         at = line.go(at, paid - frame.low);
         plan.step(at.place, sum);
         paid = sum;
     }
     // Now everything may be delivered, and once it is, everything may be paid.
-    let sum = frame.upper(at.level).min(frame.price);
+    let sum = frame.upper(at.level);
     plan.step(last, sum);
     if sum < frame.price {
         plan.step(last, frame.price);

@@ -41,12 +41,13 @@ pub struct Terms {
 }
 
 /// The bounds of all places: the lower bound of a place is `low` and its value, the upper bound `high` and its cost.
+/// Clipped, no lower bound is below 0 and no upper bound above the price.
 #[derive(Clone, Copy)]
 pub struct Frame {
     pub price: i64,
     pub low: i64,
     pub high: i64,
-    /// The lower bound of the last place.
+    /// The lower bound of the last place, unclipped.
     pub last_lower: i64,
 }
 
@@ -59,17 +60,24 @@ impl Terms {
 }
 
 impl Frame {
+    /// The clipped lower bound.
     pub fn lower(&self, level: Level) -> i64 {
-        self.low + level.value
+        (self.low + level.value).max(0)
     }
 
+    /// The clipped upper bound. It may be negative: then not even the start is safe.
     pub fn upper(&self, level: Level) -> i64 {
-        self.high + level.cost
+        (self.high + level.cost).min(self.price)
+    }
+
+    /// Whether a sum is not below the lower bound. No sum is below 0, so the unclipped bound tells.
+    pub fn allows(&self, paid: i64, level: Level) -> bool {
+        self.low + level.value <= paid
     }
 
     /// Whether nothing delivered and nothing paid is safe; `first` is the level of place 0.
     pub fn safe_start(&self, first: Level) -> bool {
-        self.lower(first) <= 0 && self.upper(first) >= 0
+        self.allows(0, first) && self.upper(first) >= 0
     }
 }
 

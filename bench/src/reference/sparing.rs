@@ -18,7 +18,7 @@ pub enum Fewest {
 /// Writes the plan along a line that admits one. `last` is its last place.
 #[inline(always)]
 pub fn write<L: Line>(fewest: Fewest, frame: &Frame, line: &L, last: usize, plan: Writer) -> usize {
-    let first = frame.upper(line.start().level).min(frame.price);
+    let first = frame.upper(line.start().level);
     match fewest {
         Fewest::Steps => line::write(frame, line, last, plan),
         Fewest::Payments => take_turns(frame, line, last, 0, plan),
@@ -42,7 +42,7 @@ fn take_turns<L: Line>(frame: &Frame, line: &L, last: usize, first: i64, mut pla
         if at.place > 0 {
             plan.step(at.place, paid);
         }
-        paid = frame.upper(at.level).min(frame.price);
+        paid = frame.upper(at.level);
         plan.step(at.place, paid);
     }
     // Now everything may be delivered, and once it is, everything may be paid.

@@ -1,42 +1,52 @@
--- Clipping the bounds changes no safe state and no plan, and not whether there is one. Assumes nothing.
-use mathlib.Core.Path.{_≡_, refl, sym, ap, _∙_}
+-- Clipping the bounds changes no safe state, no plan, no order, and not whether there is a plan. Assumes nothing.
+use mathlib.Core.Path.{_≡_, refl, sym, _∙_}
 use mathlib.Core.Logic.{_↔_, Iff·symm}
 use mathlib.Core.Bool.{Bool, true, false, cond}
 use mathlib.Core.List.{List, [], _∷_}
-use Prim.Native.Nat.{ℕ, zero, suc, min, _≤_, _<_}
+use Prim.Native.Nat.{ℕ, zero, suc, min}
 use native.Mathlib.Omega.{arith}
-use borrow.Author.Tests.{ltb-true, ltb-false, le-ltb}
+use borrow.Author.Tests.{ltb-false, le-ltb}
 use lib.Dec.{leb, ltb, le→leb}
 use lib.IntN.{ℤ, pos, negsuc}
-use lib.Signed.{_≤ℤ_}
-use Rattle.exchange.specs.Bounds.{Terms, minℤ, maxℤ, upperOf, lowerOf, unclippedUpper, unclippedLower}
-use Rattle.exchange.specs.Deal.{Deal, State, Safe, Step, Steps, Chain, Plan, dealOf, unclipped, start, ends, end}
-use Rattle.exchange.specs.Forms.{line}
+use Rattle.exchange.specs.Bounds.{Terms, minℤ, maxℤ, unclippedUpperOf, unclippedLowerOf, upperOf, lowerOf}
+use Rattle.exchange.specs.Deal.{Deal, State, Safe, Step, Steps, Chain, Plan, dealOf, unclipped, start}
+use Rattle.exchange.specs.Forms.{orderTerms, line}
 use Rattle.exchange.specs.Rule.{coins, reach, rule, ruled}
-use Rattle.exchange.specs.Arrival.{Arrives}
 use Rattle.exchange.specs.Possible.{Possible}
-use Rattle.exchange.specs.Fewest.{PaysMost, Fewest, Earliest}
-use Rattle.exchange.specs.Objectives.{PlanFor, Opens, Smaller, deliveryOnly, paymentOnly}
+use Rattle.exchange.specs.Chosen.{together, InChosenOrder, IsChosen}
+use Rattle.exchange.specs.Fewest.{PaysMost, Earliest}
+use Rattle.exchange.specs.Objectives.{PlanFor, Opens, deliveryOnly, paymentOnly}
 use Rattle.exchange.specs.Clipped.{SamePlans}
 use Rattle.exchange.specs.Work.{Rising}
 use Rattle.exchange.specs.declared.Objective.{Objective}
+use Rattle.exchange.specs.declared.Sides.{Sides}
 use Rattle.exchange.proofs.Int.{≤-trans, ≤-min, max-≤}
 use Rattle.exchange.proofs.BoundLaws.{high-same, low-same}
 use Rattle.exchange.proofs.Bridge.{reach-floor}
 
 -- ---- as sums of coins
 
-pub coins-from-zero : (z : ℤ) → coins (maxℤ z (pos 0)) ≡ coins z
+coins-from-zero : (z : ℤ) → coins (maxℤ z (pos 0)) ≡ coins z
 coins-from-zero (pos n) = rw (le-ltb n 0 (omega arith))
 coins-from-zero (negsuc n) = refl
 
-pub coins-up-to : (z : ℤ) (P : ℕ) → min (coins (minℤ z (pos P))) P ≡ min (coins z) P
+coins-up-to : (z : ℤ) (P : ℕ) → min (coins (minℤ z (pos P))) P ≡ min (coins z) P
 coins-up-to (pos n) P = go (ltb n P) refl
   where
     go : (t : Bool) → ltb n P ≡ t → min (coins (cond t (pos n) (pos P))) P ≡ min n P
     go true e = refl
     go false e = omega (arith, ltb-false n P e)
 coins-up-to (negsuc n) P = refl
+
+-- the least that is paid
+least-same : (P vdL vd cd : ℕ) → coins (lowerOf P vdL vd cd) ≡ coins (unclippedLowerOf P vdL vd cd)
+unfolding lowerOf
+least-same P vdL vd cd = coins-from-zero (unclippedLowerOf P vdL vd cd)
+
+-- the most that is paid
+pub most-same : (P vsL vs cs : ℕ) → min (coins (upperOf P vsL vs cs)) P ≡ min (coins (unclippedUpperOf P vsL vs cs)) P
+unfolding upperOf
+most-same P vsL vs cs = coins-up-to (unclippedUpperOf P vsL vs cs) P
 
 -- ---- two deals that differ in their bounds alone, and have the same safe states, payments and deliveries
 
@@ -152,7 +162,6 @@ module _ (P L : ℕ) (holds : ℕ → ℕ → Bool) where
 -- ---- a deal and the deal ahead of W4
 
 pub clipped-same : (t : Terms) (holds : ℕ → ℕ → Bool) → SamePlans (dealOf t holds) (unclipped t holds)
-unfolding upperOf lowerOf
 clipped-same t holds =
     same-plans (t .price) (t .last) holds
     (record {
@@ -160,8 +169,8 @@ clipped-same t holds =
         λ s. record { low = low-same _ _ _ _ p .0 (s .low); high = high-same _ _ _ _ p (s .within) .0 (s .high); within = s .within },
         λ s. record { low = low-same _ _ _ _ p .1 (s .low); high = high-same _ _ _ _ p (s .within) .1 (s .high); within = s .within },
       );
-      most = λ x. coins-up-to (unclippedUpper t x) (t .price);
-      least = λ x. coins-from-zero (unclippedLower t x);
+      most = λ x. most-same _ _ _ _;
+      least = λ x. least-same _ _ _ _;
     })
 
 -- along one order, neither is possible without the other
@@ -183,3 +192,9 @@ possible-same t r =
                 ≤-min _ _ _ .1 (max-≤ _ _ _ .1 (h .no-gap i l, ≤-min _ _ _ .0 from .0), to);
           },
     )
+
+-- the order that is chosen is W2's own, of the deal ahead of W4
+pub order-same : (p : Sides) (units costs values items : List ℕ)
+    → IsChosen p units costs values items
+    ≡ InChosenOrder (unclipped (orderTerms p costs values (together units items)) leb) units costs values items
+order-same p units costs values items = refl

@@ -1,16 +1,15 @@
 -- A bound as a sum of coins, by the signs that the code tests. Assumes nothing.
-use mathlib.Core.Path.{_≡_, refl}
-use mathlib.Core.Bool.{true}
-use Prim.Native.Nat.{ℕ, _≤_}
+use mathlib.Core.Path.{_≡_, refl, subst}
+use mathlib.Core.Bool.{true, false}
+use Prim.Native.Nat.{ℕ, _≤_, _<_}
 use native.Mathlib.Omega.{arith}
-use borrow.Author.Tests.{ltb-true}
+use borrow.Author.Tests.{ltb-true, ltb-false}
 use lib.Dec.{T}
 use lib.IntN.{ℤ, pos, negsuc, natAbs}
 use lib.Signed.{ltZ, nonNeg, mag, _≤ℤ_, ≤ℤ-refl}
-use Rattle.exchange.specs.Bounds.{unclippedUpperOf, unclippedLowerOf, upperOf, lowerOf}
+use Rattle.exchange.specs.Bounds.{unclippedLowerOf, lowerOf}
 use Rattle.exchange.specs.Rule.{coins}
-use Rattle.exchange.proofs.Int.{≤-min, max-≤}
-use Rattle.exchange.proofs.Bridge.{coins-low}
+use Rattle.exchange.proofs.Int.{max-≤}
 
 pub coins-none : (z : ℤ) → ltZ z (pos 0) ≡ true → 0 ≡ coins z
 coins-none (pos n) e = let h = ltb-true n 0 e in omega arith
@@ -20,10 +19,13 @@ pub coins-some : (z : ℤ) → pos 0 ≤ℤ z → T (nonNeg z) × (natAbs z ≡ 
 coins-some (pos n) h = (tt, refl, refl)
 coins-some (negsuc n) h = absurd (h .le)
 
--- no upper bound is above the price
-pub upper-within : (P vsL vs cs : ℕ) → coins (upperOf P vsL vs cs) ≤ P
-unfolding upperOf
-upper-within P vsL vs cs = coins-low _ P .0 (≤-min (unclippedUpperOf P vsL vs cs) _ _ .0 (≤ℤ-refl _) .1)
+pub coins-under : (z : ℤ) (P : ℕ) → ltZ z (pos 0) ≡ false → ltZ z (pos P) ≡ true → coins z < P
+coins-under (pos n) P e f = ltb-true n P f
+coins-under (negsuc n) P e f = absurd (subst T e tt)
+
+pub coins-over : (z : ℤ) (P : ℕ) → ltZ z (pos 0) ≡ false → ltZ z (pos P) ≡ false → P ≤ coins z
+coins-over (pos n) P e f = ltb-false n P f
+coins-over (negsuc n) P e f = absurd (subst T e tt)
 
 -- no lower bound is below 0
 pub lower-some : (P vdL vd cd : ℕ) → pos 0 ≤ℤ lowerOf P vdL vd cd

@@ -68,6 +68,15 @@ leZ-not (negsuc a) (negsuc b) = leb-not b a
 pub leZ-true : (x y : ℤ) → (leZ x y ≡ true) ↔ (x ≤ℤ y)
 leZ-true x y = (λ e. record { le = rw e tt }, λ h. is-true (leZ x y) (h .le))
 
+-- orders that hold together test alike
+pub leZ-same : (x y u v : ℤ) → ((x ≤ℤ y) ↔ (u ≤ℤ v)) → leZ x y ≡ leZ u v
+leZ-same x y u v same = go (leZ x y) (leZ u v) (λ e. is-true _ (same .0 (leZ-true x y .0 e) .le)) (λ e. is-true _ (same .1 (leZ-true u v .0 e) .le))
+  where
+    go : (a b : Bool) → (a ≡ true → b ≡ true) → (b ≡ true → a ≡ true) → a ≡ b
+    go true b f g = sym (f refl)
+    go false true f g = g refl
+    go false false f g = refl
+
 -- ---- the smaller and the greater of two
 
 less-≤ : (x y : ℤ) → ltZ x y ≡ true → x ≤ℤ y

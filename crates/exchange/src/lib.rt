@@ -86,15 +86,19 @@ pub fn lower(price: u32, value_last: u32, value_here: u32, buyer: u32) -> i64
     bound
 }
 
-// The most that is paid at a place: its upper bound, and nothing where that is below 0.
+// The most that is paid at a place: the smaller of its upper bound and the price, and nothing where that bound is below 0. The sign is
+// tested before the price, so many places are done at once.
 pub fn most_paid(price: u32, cost_last: u32, cost_here: u32, supplier: u32) -> u32
     ensures { λ r. ⌜ r ≡ min (coins (upperOf price «cost_last» «cost_here» supplier)) price ⌝ }
 {
-    let bound = upper(price, cost_last, cost_here, supplier);
+    let bound = unclipped_upper(price, cost_last, cost_here, supplier);
     if bound < 0 {
         return 0;
     }
-    bound as u32
+    if bound < price as i64 {
+        return bound as u32;
+    }
+    price
 }
 
 // The least that is paid at a place: its lower bound. No place has a greater value than the last, so it is at most the price.

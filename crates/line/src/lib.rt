@@ -72,11 +72,12 @@ pub fn reaches(sides: Sides, t: Totals, value: u32, paid: u32) -> bool
     exchange::lower(sides.price, t.value, value, sides.buyer) <= paid as i64
 }
 
-// Whether what is paid is at most a place's upper bound.
-pub fn affords(sides: Sides, t: Totals, cost: u32, paid: u32) -> bool
+// Whether what is paid is at most a place's upper bound. It is at most the price, so clipping the bound changes nothing.
+fn affords(sides: Sides, t: Totals, cost: u32, paid: u32) -> bool
+    requires { ⌜ paid ≤ sides .price ⌝ }
     ensures { λ r. ⌜ r ≡ leZ (pos paid) (upperOf (sides .price) (t .cost) cost (sides .supplier)) ⌝ }
 {
-    paid as i64 <= exchange::upper(sides.price, t.cost, cost, sides.supplier)
+    paid as i64 <= exchange::unclipped_upper(sides.price, t.cost, cost, sides.supplier)
 }
 
 // Whether it is a step from a place of this cost with p paid to a later place of this value with q paid: all four states are safe.

@@ -1,8 +1,16 @@
--- What the choice gives where items tie, by computation. Items are counted from 0. Assumes nothing.
+-- What the choice gives where items tie, and where clipped bounds would leave no room, by computation. Items are counted from 0. Assumes
+-- nothing.
 use mathlib.Core.Path.{_≡_, refl}
+use mathlib.Core.Bool.{true, false}
 use mathlib.Core.List.{[], _∷_}
 use mathlib.Core.Option.{some}
-use Rattle.exchange.specs.Forms.{occurs}
+use lib.Dec.{leb}
+use lib.IntN.{pos}
+use lib.Signed.{leZ}
+use Rattle.exchange.specs.Bounds.{unclippedUpperOf, unclippedLowerOf, upperOf, lowerOf}
+use Rattle.exchange.specs.Deal.{unclipped}
+use Rattle.exchange.specs.Forms.{along, orderTerms, inOrder, occurs}
+use Rattle.exchange.specs.Chosen.{slack}
 use Rattle.exchange.specs.Choice.{sumOver, allItems, fits, better, best, placed, bothEnds, choose}
 
 -- of (6, 4) twice and of (4, 4) and (5, 5), whose cost is their value, the lower number stands first; of (4, 6) twice, placed
@@ -13,3 +21,12 @@ ties :
     ≡ some (1 ∷ 4 ∷ 2 ∷ 3 ∷ 5 ∷ 0 ∷ [])
 unfolding occurs sumOver allItems fits better best placed bothEnds choose
 ties = refl
+
+-- of (5, 5) and (0, 100) for 3 and cs 2, the first has room at the start between the unclipped bounds, 0 and -102, and is placed first;
+-- clipped, both bounds are 0
+unclipped-room :
+    (choose (record { price = 3; supplier = 2; buyer = 0 }) (1 ∷ 1 ∷ []) (5 ∷ 0 ∷ []) (5 ∷ 100 ∷ []) ≡ some (0 ∷ 1 ∷ []))
+    × (leZ (pos 5) (slack (unclipped (orderTerms (record { price = 3; supplier = 2; buyer = 0 }) (5 ∷ 0 ∷ []) (5 ∷ 100 ∷ []) (0 ∷ 1 ∷ [])) leb) 0) ≡ true)
+    × (leZ (pos 5) (slack (inOrder (record { price = 3; supplier = 2; buyer = 0 }) (5 ∷ 0 ∷ []) (5 ∷ 100 ∷ []) (0 ∷ 1 ∷ [])) 0) ≡ false)
+unfolding unclippedUpperOf unclippedLowerOf upperOf lowerOf along occurs sumOver allItems fits better best placed bothEnds choose
+unclipped-room = (refl, refl, refl)
