@@ -41,7 +41,7 @@ high-same P vsL vs cs p w = (λ h. ≤-min _ _ _ .0 h .0, λ h. ≤-min _ _ _ .1
 -- of no sum does clipping the lower bound
 pub low-same : (P vdL vd cd p : ℕ) → (lowerOf P vdL vd cd ≤ℤ pos p) ↔ (unclippedLowerOf P vdL vd cd ≤ℤ pos p)
 unfolding lowerOf
-low-same P vdL vd cd p = (λ h. max-≤ _ _ _ .0 h .0, λ h. max-≤ _ _ _ .1 (h, pos-≤ 0 p .1 (omega arith)))
+low-same P vdL vd cd p = (λ h. max-≤ _ (pos 0) _ .0 h .0, λ h. max-≤ _ (pos 0) _ .1 (h, pos-≤ 0 p .1 (omega arith)))
 
 pub high↔ : (P vsL vs cs p : ℕ) → p ≤ P → (pos p ≤ℤ upperOf P vsL vs cs) ↔ (p + vsL ≤ P + vs + cs)
 high↔ P vsL vs cs p w = Iff·trans (high-same P vsL vs cs p w) (unclipped-high↔ P vsL vs cs p)
@@ -68,8 +68,8 @@ upper-rises P vsL cs h =
 pub lower-rises : (P vdL cd : ℕ) {x y : ℕ} → x ≤ y → lowerOf P vdL x cd ≤ℤ lowerOf P vdL y cd
 unfolding lowerOf
 lower-rises P vdL cd h =
-    let both = max-≤ _ _ _ .0 (≤ℤ-refl _) in
-    max-≤ _ _ _ .1 (≤-trans (unclipped-lower-rises P vdL cd h) (both .0), both .1)
+    let both = max-≤ _ (pos 0) _ .0 (≤ℤ-refl _) in
+    max-≤ _ (pos 0) _ .1 (≤-trans (unclipped-lower-rises P vdL cd h) (both .0), both .1)
 
 -- ---- safe states
 

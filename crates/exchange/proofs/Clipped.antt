@@ -5,7 +5,7 @@ use mathlib.Core.Bool.{Bool, true, false, cond}
 use mathlib.Core.List.{List, [], _∷_}
 use Prim.Native.Nat.{ℕ, zero, suc, min}
 use native.Mathlib.Omega.{arith}
-use borrow.Author.Tests.{ltb-false, le-ltb}
+use borrow.Author.Tests.{ltb-false, lt-ltb}
 use lib.Dec.{leb, ltb, le→leb}
 use lib.IntN.{ℤ, pos, negsuc}
 use Rattle.exchange.specs.Bounds.{Terms, minℤ, maxℤ, unclippedUpperOf, unclippedLowerOf, upperOf, lowerOf}
@@ -27,7 +27,8 @@ use Rattle.exchange.proofs.Bridge.{reach-floor}
 -- ---- as sums of coins
 
 coins-from-zero : (z : ℤ) → coins (maxℤ z (pos 0)) ≡ coins z
-coins-from-zero (pos n) = rw (le-ltb n 0 (omega arith))
+coins-from-zero (pos zero) = refl
+coins-from-zero (pos (suc n)) = rw (lt-ltb 0 (suc n) (omega arith))
 coins-from-zero (negsuc n) = refl
 
 coins-up-to : (z : ℤ) (P : ℕ) → min (coins (minℤ z (pos P))) P ≡ min (coins z) P
@@ -181,7 +182,7 @@ possible-same t r =
       λ h.
           record {
             start-safe = safe .0 (h .start-safe);
-            no-gap = λ i l. ≤-min _ _ _ .0 (max-≤ _ _ _ .0 (h .no-gap i l) .0) .0;
+            no-gap = λ i l. ≤-min _ _ _ .0 (max-≤ _ (pos 0) _ .0 (h .no-gap i l) .0) .0;
           },
       λ h.
           record {
@@ -189,7 +190,7 @@ possible-same t r =
             no-gap = λ i l.
                 let from = ≤-trans (safe .1 (h .start-safe) .high) (r .upper-rises 0 i (omega arith) (omega arith) (r .holds-start i)) in
                 let to = ≤-trans (r .lower-rises (suc i) (t .last) l (omega arith) (le→leb (suc i) (t .last) l)) (r .lower-last) in
-                ≤-min _ _ _ .1 (max-≤ _ _ _ .1 (h .no-gap i l, ≤-min _ _ _ .0 from .0), to);
+                ≤-min _ _ _ .1 (max-≤ _ (pos 0) _ .1 (h .no-gap i l, ≤-min _ _ _ .0 from .0), to);
           },
     )
 

@@ -30,4 +30,4 @@ coins-over (negsuc n) P e f = absurd (subst T e tt)
 -- no lower bound is below 0
 pub lower-some : (P vdL vd cd : ℕ) → pos 0 ≤ℤ lowerOf P vdL vd cd
 unfolding lowerOf
-lower-some P vdL vd cd = max-≤ (unclippedLowerOf P vdL vd cd) _ _ .0 (≤ℤ-refl _) .1
+lower-some P vdL vd cd = max-≤ (unclippedLowerOf P vdL vd cd) (pos 0) _ .0 (≤ℤ-refl _) .1

@@ -97,8 +97,8 @@ module _ (x y z : ℤ) where
       go false e = (λ h. (≤-trans h (not-less-≤ x y e), h), λ h. h .1)
 
   pub max-≤ : (maxℤ x y ≤ℤ z) ↔ ((x ≤ℤ z) × (y ≤ℤ z))
-  max-≤ = go (ltZ x y) refl
+  max-≤ = go (ltZ y x) refl
     where
-      go : (t : Bool) → ltZ x y ≡ t → (cond t y x ≤ℤ z) ↔ ((x ≤ℤ z) × (y ≤ℤ z))
-      go true e = (λ h. (≤-trans (less-≤ x y e) h, h), λ h. h .1)
-      go false e = (λ h. (h, ≤-trans (not-less-≤ x y e) h), λ h. h .0)
+      go : (t : Bool) → ltZ y x ≡ t → (cond t x y ≤ℤ z) ↔ ((x ≤ℤ z) × (y ≤ℤ z))
+      go true e = (λ h. (h, ≤-trans (less-≤ y x e) h), λ h. h .0)
+      go false e = (λ h. (≤-trans (not-less-≤ y x e) h, h), λ h. h .1)

@@ -20,7 +20,7 @@ minℤ x y = cond (ltZ x y) x y
 
 -- the greater of two integers
 abbrev pub maxℤ : ℤ → ℤ → ℤ
-maxℤ x y = cond (ltZ x y) y x
+maxℤ x y = cond (ltZ y x) x y
 
 -- the upper bound, unclipped: P − vs(L) + vs(place) + cs
 unfoldable pub unclippedUpperOf : ℕ → ℕ → ℕ → ℕ → ℤ

@@ -80,14 +80,14 @@ pub fn lower(price: u32, value_last: u32, value_here: u32, buyer: u32) -> i64
     ensures { λ r. ⌜ r ≡ lowerOf price «value_last» «value_here» buyer ⌝ }
 {
     let bound = unclipped_lower(price, value_last, value_here, buyer);
-    if bound < 0 {
-        return 0;
+    if 0 < bound {
+        return bound;
     }
-    bound
+    0
 }
 
-// The most that is paid at a place: the smaller of its upper bound and the price, and nothing where that bound is below 0. The sign is
-// tested before the price, so many places are done at once.
+// The most that is paid at a place: the smaller of its upper bound and the price, and nothing where that bound is below 0. With the sign
+// tested first, a loop over many places compares them faster.
 pub fn most_paid(price: u32, cost_last: u32, cost_here: u32, supplier: u32) -> u32
     ensures { λ r. ⌜ r ≡ min (coins (upperOf price «cost_last» «cost_here» supplier)) price ⌝ }
 {

@@ -19,16 +19,16 @@ unfolding lowerOf
 returns c =
     let z = c .before .unclipped-lower .result in
     let k : toZ w64 (ofZ w64 z) ≡ z = toZ-ofZ (search needs) in
-    let f : ltZ (toZ w64 (ofZ w64 z)) (pos 0) ≡ true = c .if1 .taken in
-    rw (← c .before .unclipped-lower .ensures, rw k at f)
+    let f : ltZ (pos 0) (toZ w64 (ofZ w64 z)) ≡ true = c .if1 .taken in
+    rw (← c .before .unclipped-lower .ensures, k, rw k at f)
 
 returns-2 : tie.Need-returns-2
 unfolding lowerOf
 returns-2 c =
     let z = c .before .unclipped-lower .result in
     let k : toZ w64 (ofZ w64 z) ≡ z = toZ-ofZ (search needs) in
-    let f : ltZ (toZ w64 (ofZ w64 z)) (pos 0) ≡ false = c .if1 .left in
-    rw (← c .before .unclipped-lower .ensures, k, rw k at f)
+    let f : ltZ (pos 0) (toZ w64 (ofZ w64 z)) ≡ false = c .if1 .left in
+    rw (← c .before .unclipped-lower .ensures, rw k at f)
 
 pub lower-spec : {M : Type 1} → statement M
 lower-spec = tie.close (tie.spec unclipped-lower-requires returns returns-2)
