@@ -33,6 +33,14 @@ static void show_bounds(uint32_t place) {
         printf("bounds of place %" PRIu32 ": paid from %" PRId64 " to %" PRId64 "\n", place, signed_at(bounds), signed_at(bounds + 8));
 }
 
+/* After refusal 9. A negative upper bound shows that not even the start is safe. (Unit prices would need order bytes.) */
+static void show_unsafe_start(void) {
+    uint8_t bounds[YOLKGORGE_BOUNDS_SIZE];
+    uint32_t refusal = yolkgorge_bounds(record, length, 0, order, sizeof order, bounds, sizeof bounds);
+    if (!refusal && signed_at(bounds + 8) < 0)
+        printf("the start is not safe: its upper bound is %" PRId64 "\n", signed_at(bounds + 8));
+}
+
 /* Plans for a bank that charges for each transfer, for a courier that charges for each delivery, and for both. */
 typedef int64_t sparing_planner(const uint8_t *, size_t, uint8_t *, size_t, uint8_t *, size_t, uint8_t *, size_t);
 static const struct {
@@ -104,6 +112,7 @@ int main(int argc, char **argv) {
     answer = yolkgorge_plan(record, length, places, sizeof places, sums, sizeof sums, order, sizeof order, work, sizeof work);
     if (answer < 0) {
         printf("refused %" PRId64 "\n", -answer);
+        if (answer == -YOLKGORGE_IMPOSSIBLE) show_unsafe_start();
         return 0;
     }
     count = (size_t)answer;

@@ -76,9 +76,10 @@ static inline uint32_t yolkgorge_sum_at(const uint8_t *sums, size_t k) {
  *
  * The same record gives the same plan at every desk: answer and areas are fixed to the last byte.
  *   Unit prices: items whose unit cost is at least the unit value come first. Each time it is the one with the greatest cost
- *   less value of a unit, of those whose unit value is at most upper less lower (yolkgorge_bounds) at the place reached. The
- *   others fill the order from its end: each time the greatest value less cost of a unit, of those whose unit cost is at most
- *   upper less lower at the place after it. On a tie the lower item number is taken.
+ *   less value of a unit, of those whose unit value is at most upper less lower at the place reached. The others fill the
+ *   order from its end: each time the greatest value less cost of a unit, of those whose unit cost is at most upper less
+ *   lower at the place after it. On a tie the lower item number is taken. Upper and lower are here the bounds of the place
+ *   (yolkgorge_bounds) before they are clipped.
  *   Table: of the safe plans with fewest steps, the one whose list of rows is earliest, compared from the first step. */
 int64_t yolkgorge_plan(const uint8_t *record, size_t record_len, uint8_t *places, size_t places_len, uint8_t *sums,
                        size_t sums_len, uint8_t *order, size_t order_len, uint8_t *work, size_t work_len);
@@ -109,7 +110,10 @@ uint32_t yolkgorge_check(const uint8_t *record, size_t record_len, size_t count,
 
 /* The bounds of a place: the paid total is safe there from `lower` to `upper`, both included. Answers 0 and stores them in
  * the first sixteen bytes of `bounds`, lower then upper, each a signed 64-bit number in two's complement, little-endian;
- * else answers the number of a refusal (1 to 8, 12). Either bound may be negative. */
+ * else answers the number of a refusal (1 to 8, 12).
+ *   lower: the price, less the value of what is not delivered yet, less the buyer's defection cost; clipped to at least 0
+ *   upper: the price, less the cost of what is not delivered yet, plus the supplier's defection cost; clipped to at most the
+ *          price. A negative one stays negative: no paid total is safe there, nor at the start, and the deal has no plan (9). */
 uint32_t yolkgorge_bounds(const uint8_t *record, size_t record_len, size_t place, const uint8_t *order, size_t order_len,
                           uint8_t *bounds, size_t bounds_len);
 

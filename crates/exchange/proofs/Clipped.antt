@@ -3,11 +3,12 @@ use mathlib.Core.Path.{_≡_, refl, sym, _∙_}
 use mathlib.Core.Logic.{_↔_, Iff·symm}
 use mathlib.Core.Bool.{Bool, true, false, cond}
 use mathlib.Core.List.{List, [], _∷_}
-use Prim.Native.Nat.{ℕ, zero, suc, min}
+use Prim.Native.Nat.{ℕ, zero, suc, min, _≤_}
 use native.Mathlib.Omega.{arith}
 use borrow.Author.Tests.{ltb-false, lt-ltb}
 use lib.Dec.{leb, ltb, le→leb}
 use lib.IntN.{ℤ, pos, negsuc}
+use lib.Signed.{_<ℤ_, clashℤ}
 use Rattle.exchange.specs.Bounds.{Terms, minℤ, maxℤ, unclippedUpperOf, unclippedLowerOf, upperOf, lowerOf}
 use Rattle.exchange.specs.Deal.{Deal, State, Safe, Step, Steps, Chain, Plan, dealOf, unclipped, start}
 use Rattle.exchange.specs.Forms.{orderTerms, line}
@@ -193,6 +194,10 @@ possible-same t r =
                 ≤-min _ _ _ .1 (max-≤ _ (pos 0) _ .1 (h .no-gap i l, ≤-min _ _ _ .0 from .0), to);
           },
     )
+
+-- "A negative upper bound .. shows that the start isn't safe", of whatever place it is
+pub negative-unsafe : (d : Deal) → Rising d → (x : ℕ) → x ≤ d .last → d .upper x <ℤ pos 0 → Safe d 0 0 → ⊥
+negative-unsafe d r x l h s = clashℤ h (≤-trans (s .high) (r .upper-rises 0 x (omega arith) l (r .holds-start x)))
 
 -- the order that is chosen is W2's own, of the deal ahead of W4
 pub order-same : (p : Sides) (units costs values items : List ℕ)

@@ -20,7 +20,7 @@ returns c =
     let z = c .before .unclipped-lower .result in
     let k : toZ w64 (ofZ w64 z) ≡ z = toZ-ofZ (search needs) in
     let f : ltZ (pos 0) (toZ w64 (ofZ w64 z)) ≡ true = c .if1 .taken in
-    rw (← c .before .unclipped-lower .ensures, k, rw k at f)
+    rw (← c .before .unclipped-lower .ensures, rw k at f) k
 
 returns-2 : tie.Need-returns-2
 unfolding lowerOf

@@ -26,7 +26,7 @@ returns c =
     let k : toZ w64 (ofZ w64 z) ≡ z = toZ-ofZ (search needs) in
     let m : toZ w64 P ≡ pos P = toZ-pos w64 {n = P} (omega arith) in
     let f : ltZ (toZ w64 (ofZ w64 z)) (toZ w64 P) ≡ true = c .if1 .taken in
-    rw (← c .before .unclipped-upper .ensures, k, rw (k, m) at f)
+    rw (← c .before .unclipped-upper .ensures, rw (k, m) at f) k
 
 returns-2 : tie.Need-returns-2
 unfolding upperOf
@@ -36,7 +36,7 @@ returns-2 c =
     let k : toZ w64 (ofZ w64 z) ≡ z = toZ-ofZ (search needs) in
     let m : toZ w64 P ≡ pos P = toZ-pos w64 {n = P} (omega arith) in
     let f : ltZ (toZ w64 (ofZ w64 z)) (toZ w64 P) ≡ false = c .if1 .left in
-    rw (← c .before .unclipped-upper .ensures, m, rw (k, m) at f)
+    rw (← c .before .unclipped-upper .ensures, rw (k, m) at f) m
 
 pub upper-spec : {M : Type 1} → statement M
 upper-spec = tie.close (tie.spec unclipped-upper-requires cast-most returns returns-2)
