@@ -29,16 +29,16 @@ unclipped-low↔ P vdL vd cd p = rw (pos-is p, lower-is P vdL vd cd) (Iff·trans
 
 -- ---- clipped
 
--- a sum as integers
+-- sums as integers
 pos-≤ : (p q : ℕ) → (pos p ≤ℤ pos q) ↔ (p ≤ q)
 pos-≤ p q = omega (arith, leb→le, le→leb)
 
--- of a sum within the price, clipping the upper bound changes nothing
+-- a sum of at most the price is at most the clipped upper bound exactly if it is at most the unclipped one
 pub high-same : (P vsL vs cs p : ℕ) → p ≤ P → (pos p ≤ℤ upperOf P vsL vs cs) ↔ (pos p ≤ℤ unclippedUpperOf P vsL vs cs)
 unfolding upperOf
 high-same P vsL vs cs p w = (λ h. ≤-min _ _ _ .0 h .0, λ h. ≤-min _ _ _ .1 (h, pos-≤ p P .1 w))
 
--- of no sum does clipping the lower bound
+-- every sum is at least the clipped lower bound exactly if it is at least the unclipped one
 pub low-same : (P vdL vd cd p : ℕ) → (lowerOf P vdL vd cd ≤ℤ pos p) ↔ (unclippedLowerOf P vdL vd cd ≤ℤ pos p)
 unfolding lowerOf
 low-same P vdL vd cd p = (λ h. max-≤ _ (pos 0) _ .0 h .0, λ h. max-≤ _ (pos 0) _ .1 (h, pos-≤ 0 p .1 (omega arith)))
@@ -51,11 +51,11 @@ low↔ P vdL vd cd p = Iff·trans (low-same P vdL vd cd p) (unclipped-low↔ P v
 
 -- ---- a bound does not fall where the cost, or the value, does not
 
-pub unclipped-upper-rises : (P vsL cs : ℕ) {x y : ℕ} → x ≤ y → unclippedUpperOf P vsL x cs ≤ℤ unclippedUpperOf P vsL y cs
+unclipped-upper-rises : (P vsL cs : ℕ) {x y : ℕ} → x ≤ y → unclippedUpperOf P vsL x cs ≤ℤ unclippedUpperOf P vsL y cs
 unclipped-upper-rises P vsL cs {x} {y} h =
     rw (upper-is P vsL x cs, upper-is P vsL y cs) (≤-sub (P + x + cs) vsL (P + y + cs) vsL .1 (omega arith))
 
-pub unclipped-lower-rises : (P vdL cd : ℕ) {x y : ℕ} → x ≤ y → unclippedLowerOf P vdL x cd ≤ℤ unclippedLowerOf P vdL y cd
+unclipped-lower-rises : (P vdL cd : ℕ) {x y : ℕ} → x ≤ y → unclippedLowerOf P vdL x cd ≤ℤ unclippedLowerOf P vdL y cd
 unclipped-lower-rises P vdL cd {x} {y} h =
     rw (lower-is P vdL x cd, lower-is P vdL y cd) (≤-sub (P + x) (vdL + cd) (P + y) (vdL + cd) .1 (omega arith))
 

@@ -67,7 +67,7 @@ module _ (d : Deal) (units costs values : List ℕ) where
     pub forwards : AgainAndAgain (λ placed. Next (MayFollow placed) (λ j. at costs j - at values j)) [] firsts
     pub backwards : AgainAndAgain (λ placed. Next (MayPrecede placed) (λ j. at values j - at costs j)) [] others
 
--- the items of unit prices in the chosen order, by the bounds along that very order: W4's "difference is still taken between the
+-- the items of unit prices in the chosen order, by the bounds along that very order; W4: "W2's difference is still taken between the
 -- unclipped bounds"
 abbrev pub IsChosen : Sides → List ℕ → List ℕ → List ℕ → List ℕ → Type 0
 IsChosen p units costs values items =

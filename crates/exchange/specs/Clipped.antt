@@ -1,7 +1,7 @@
 -- What clipping the bounds leaves as it was. The sentence is W4's: "Plans, orders and refusals are equal to those of today".
-use Prim.Native.Nat.{ℕ}
 use mathlib.Core.Logic.{_↔_}
 use mathlib.Core.List.{List}
+use Prim.Native.Nat.{ℕ}
 use Rattle.exchange.specs.Deal.{Deal, State, Safe, Plan}
 use Rattle.exchange.specs.Fewest.{Earliest}
 use Rattle.exchange.specs.Objectives.{PlanFor}
