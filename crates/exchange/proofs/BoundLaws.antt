@@ -5,11 +5,11 @@ use mathlib.Core.Bool.{Bool}
 use Prim.Native.Nat.{ℕ, _+_, _≤_}
 use native.Mathlib.Omega.{arith}
 use lib.IntN.{pos, subℕ}
-use lib.Dec.{leb→le, le→leb}
 use lib.Signed.{_≤ℤ_, ≤ℤ-refl}
 use Rattle.exchange.specs.Bounds.{Terms, unclippedUpperOf, unclippedLowerOf, upperOf, lowerOf, SupplierGains, BuyerGains}
 use Rattle.exchange.specs.Deal.{dealOf, Safe}
 use Rattle.exchange.proofs.Int.{pos-is, pos-sub, sub-add, sub-sub, ≤-sub, not-less, ≤-trans, ≤-min, max-≤}
+use Rattle.exchange.proofs.Bridge.{coins-low}
 
 -- ---- a bound as a difference of two sums
 
@@ -27,21 +27,22 @@ unclipped-high↔ P vsL vs cs p = rw (pos-is p, upper-is P vsL vs cs) (Iff·tran
 unclipped-low↔ : (P vdL vd cd p : ℕ) → (unclippedLowerOf P vdL vd cd ≤ℤ pos p) ↔ (P + vd ≤ p + (vdL + cd))
 unclipped-low↔ P vdL vd cd p = rw (pos-is p, lower-is P vdL vd cd) (Iff·trans (≤-sub (P + vd) (vdL + cd) p 0) (omega arith))
 
--- ---- clipped
+-- a lower bound is at most an upper one
+pub gap↔ : (P vdL vd cd vsL vs cs : ℕ) → (unclippedLowerOf P vdL vd cd ≤ℤ unclippedUpperOf P vsL vs cs) ↔ (vd + vsL ≤ vs + cs + (vdL + cd))
+gap↔ P vdL vd cd vsL vs cs =
+    rw (lower-is P vdL vd cd, upper-is P vsL vs cs) (Iff·trans (≤-sub (P + vd) (vdL + cd) (P + vs + cs) vsL) (omega arith))
 
--- sums as integers
-pos-≤ : (p q : ℕ) → (pos p ≤ℤ pos q) ↔ (p ≤ q)
-pos-≤ p q = omega (arith, leb→le, le→leb)
+-- ---- clipped
 
 -- a sum of at most the price is at most the clipped upper bound exactly if it is at most the unclipped one
 pub high-same : (P vsL vs cs p : ℕ) → p ≤ P → (pos p ≤ℤ upperOf P vsL vs cs) ↔ (pos p ≤ℤ unclippedUpperOf P vsL vs cs)
 unfolding upperOf
-high-same P vsL vs cs p w = (λ h. ≤-min _ _ _ .0 h .0, λ h. ≤-min _ _ _ .1 (h, pos-≤ p P .1 w))
+high-same P vsL vs cs p w = (λ h. ≤-min _ _ _ .0 h .0, λ h. ≤-min _ _ _ .1 (h, coins-low (pos p) P .1 w))
 
 -- every sum is at least the clipped lower bound exactly if it is at least the unclipped one
 pub low-same : (P vdL vd cd p : ℕ) → (lowerOf P vdL vd cd ≤ℤ pos p) ↔ (unclippedLowerOf P vdL vd cd ≤ℤ pos p)
 unfolding lowerOf
-low-same P vdL vd cd p = (λ h. max-≤ _ (pos 0) _ .0 h .0, λ h. max-≤ _ (pos 0) _ .1 (h, pos-≤ 0 p .1 (omega arith)))
+low-same P vdL vd cd p = (λ h. max-≤ _ (pos 0) _ .0 h .0, λ h. max-≤ _ (pos 0) _ .1 (h, coins-low (pos 0) p .1 (omega arith)))
 
 pub high↔ : (P vsL vs cs p : ℕ) → p ≤ P → (pos p ≤ℤ upperOf P vsL vs cs) ↔ (p + vsL ≤ P + vs + cs)
 high↔ P vsL vs cs p w = Iff·trans (high-same P vsL vs cs p w) (unclipped-high↔ P vsL vs cs p)

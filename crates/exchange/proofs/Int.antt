@@ -1,7 +1,7 @@
 -- The integers as differences, `subℕ a b` for a − b, so that sums and orders of them are sums and orders in ℕ, which `omega` reads.
 -- Assumes nothing.
 use mathlib.Core.Path.{_≡_, refl, sym, ap, _∙_, subst}
-use mathlib.Core.Logic.{_↔_}
+use mathlib.Core.Logic.{_↔_, Iff·trans, Iff·symm}
 use mathlib.Core.Bool.{Bool, true, false, not, cond}
 use Prim.Native.Nat.{ℕ, zero, suc, _+_, _-_, _≤_}
 use native.Mathlib.Omega.{arith}
@@ -68,14 +68,14 @@ leZ-not (negsuc a) (negsuc b) = leb-not b a
 pub leZ-true : (x y : ℤ) → (leZ x y ≡ true) ↔ (x ≤ℤ y)
 leZ-true x y = (λ e. record { le = rw e tt }, λ h. is-true (leZ x y) (h .le))
 
--- orders that hold together test alike
+-- two tests that pass together are the same
+pub test-same : (a b : Bool) → ((a ≡ true) ↔ (b ≡ true)) → a ≡ b
+test-same true b same = sym (same .0 refl)
+test-same false true same = same .1 refl
+test-same false false same = refl
+
 pub leZ-same : (x y u v : ℤ) → ((x ≤ℤ y) ↔ (u ≤ℤ v)) → leZ x y ≡ leZ u v
-leZ-same x y u v same = go (leZ x y) (leZ u v) (λ e. is-true _ (same .0 (leZ-true x y .0 e) .le)) (λ e. is-true _ (same .1 (leZ-true u v .0 e) .le))
-  where
-    go : (a b : Bool) → (a ≡ true → b ≡ true) → (b ≡ true → a ≡ true) → a ≡ b
-    go true b f g = sym (f refl)
-    go false true f g = g refl
-    go false false f g = refl
+leZ-same x y u v same = test-same _ _ (Iff·trans (leZ-true x y) (Iff·trans same (Iff·symm (leZ-true u v))))
 
 -- ---- the smaller and the greater of two
 

@@ -18,7 +18,7 @@ use Rattle.exchange.specs.Deal.{State, Step, Steps, Plan, start, ends}
 use Rattle.exchange.specs.PlanIn.{planIn}
 use Rattle.exchange.specs.Test.{boundsAt, safeTest, stepTest}
 use Rattle.exchange.specs.declared.Bounds.{Bounds}
-use Rattle.exchange.proofs.Int.{leZ-true, ≤-trans}
+use Rattle.exchange.proofs.Int.{leZ-true, test-same, ≤-trans}
 use Rattle.exchange.proofs.BoundLaws.{upper-rises, lower-rises}
 use Rattle.exchange.proofs.GivenOrder.Run.{state-eq}
 use Rattle.exchange.proofs.PlanInLaws.{entryIn, plan-none, plan-step, plan-next, plan-end}
@@ -93,11 +93,8 @@ module _ (s : Sides) (t : Totals) (cost value p q : ℕ) (a b : Bounds) (low : b
   tests = rw (low, high) (passes↔ s t cost value p q)
 
   pub passes-step : a .lower ≤ℤ b .lower → a .upper ≤ℤ b .upper → passes s t cost value p q ≡ stepTest true a b p q (s .price)
-  passes-step lows highs = go (passes s t cost value p q) refl
-    where
-      go : (x : Bool) → passes s t cost value p q ≡ x → passes s t cost value p q ≡ stepTest true a b p q (s .price)
-      go true y = y ∙ sym (tests-step a b p q (s .price) lows highs (tests .0 y))
-      go false y = y ∙ sym (not-so (stepTest true a b p q (s .price)) (λ e. subst T (sym (tests .1 (step-tests a b p q (s .price) e)) ∙ y) tt))
+  passes-step lows highs =
+      test-same _ _ (λ e. tests-step a b p q (s .price) lows highs (tests .0 e), λ e. tests .1 (step-tests a b p q (s .price) e))
 
 -- ---- a brought plan, step by step
 

@@ -21,8 +21,8 @@ use Rattle.exchange.specs.Possible.{Possible}
 use Rattle.exchange.specs.Test.{safeTest}
 use Rattle.exchange.specs.Work.{Rising, workOf}
 use Rattle.exchange.specs.declared.Sides.{Sides}
-use Rattle.exchange.proofs.Int.{leZ-true, ≤-sub}
-use Rattle.exchange.proofs.BoundLaws.{lower-is, upper-is, low↔}
+use Rattle.exchange.proofs.Int.{leZ-true}
+use Rattle.exchange.proofs.BoundLaws.{gap↔, low↔}
 use Rattle.exchange.proofs.Clipped.{clipped-same, possible-same}
 use Rattle.exchange.proofs.Bridge.{lawful, coins-low, reach-floor}
 use Rattle.exchange.proofs.GivenOrder.Farthest.{farthest, farthest-is}
@@ -151,8 +151,7 @@ module _ (s : Sides) (us cs vs : List ℕ) where
     -- a gap as an order of sums
     pub meet↔ : (cost value : ℕ) → (meet s t cost value ≡ true) ↔ (s .price + value + t .cost ≤ s .price + cost + s .supplier + (t .value + s .buyer))
     meet↔ cost value =
-        rw (lower-is (s .price) (t .value) value (s .buyer), upper-is (s .price) (t .cost) cost (s .supplier))
-        (Iff·trans (leZ-true _ _) (≤-sub (s .price + value) (t .value + s .buyer) (s .price + cost + s .supplier) (t .cost)))
+        Iff·trans (leZ-true _ _) (Iff·trans (gap↔ (s .price) (t .value) value (s .buyer) (t .cost) cost (s .supplier)) (omega arith))
 
     -- to is where the n units left of the cursor's segment end
     module _ (c to : Cursor) (o : Open us cs vs c) (n : ℕ) (e : c .used + n ≡ getD us (c .segment) 0) (m : There us cs vs to (c .place + n)) where

@@ -7,26 +7,18 @@ use Prim.Native.Nat.{ℕ, _+_, _≤_}
 use native.Mathlib.Omega.{arith}
 use lib.Dec.{leb}
 use lib.ListN.{length}
-use lib.Signed.{_≤ℤ_}
-use Rattle.exchange.specs.Bounds.{unclippedUpperOf, unclippedLowerOf}
 use Rattle.exchange.specs.Deal.{Safe, unclipped}
 use Rattle.exchange.specs.Forms.{along, orderTerms, inOrder, Order}
 use Rattle.exchange.specs.Possible.{Possible}
 use Rattle.exchange.specs.Chosen.{at}
 use Rattle.exchange.specs.Choice.{sumOver, allItems}
 use Rattle.exchange.specs.declared.Sides.{Sides}
-use Rattle.exchange.proofs.Int.{≤-sub}
-use Rattle.exchange.proofs.BoundLaws.{upper-is, lower-is, safe↔}
+use Rattle.exchange.proofs.BoundLaws.{gap↔, safe↔}
 use Rattle.exchange.proofs.Clipped.{clipped-same, possible-same}
 use Rattle.exchange.proofs.FormLaws.{order-rising}
 use Rattle.exchange.proofs.Choice.Sums.{along-all, along-none, sum-order}
 use Rattle.exchange.proofs.Choice.Room.{allowed-places, places-allowed}
 use Rattle.exchange.proofs.Choice.Both.{Fitting}
-
--- an unclipped lower bound is at most an unclipped upper one, with no subtraction
-gap↔ : (P vdL vd cd vsL vs cs : ℕ) → (unclippedLowerOf P vdL vd cd ≤ℤ unclippedUpperOf P vsL vs cs) ↔ (vd + vsL ≤ vs + cs + (vdL + cd))
-gap↔ P vdL vd cd vsL vs cs =
-    rw (lower-is P vdL vd cd, upper-is P vsL vs cs) (Iff·trans (≤-sub (P + vd) (vdL + cd) (P + vs + cs) vsL) (omega arith))
 
 -- the cost, or the value, of the last place is the same along every order
 pub last-is : (units : List ℕ) (w : ℕ → ℕ) (σ : List ℕ) → Order units σ → along w σ (length σ) ≡ sumOver units w (allItems (length units))
