@@ -7,10 +7,13 @@ use lib.ListN.{length}
 use Rattle.contract.specs.Res.{Res, refused, ok}
 use Rattle.contract.specs.Contract.{Contract}
 use Rattle.contract.specs.Parse.{parse}
+use Rattle.contract.proofs.ParsedValid.{parsed-valid}
 use Rattle.exchange.specs.Deal.{State}
 use Rattle.exchange.specs.PlanIn.{planIn}
+use Rattle.exchange.specs.Work.{Rising}
 use Rattle.planning.specs.Check.{SafeAlong, aheadOfCheck, Checks}
 use Rattle.planning.specs.Order.{namesOrder, dealBy}
+use Rattle.planning.proofs.FormRising.{contract-rising}
 use Rattle.session.specs.Session.{opened, reportIn, reportOn, replyTo, sessionAfter}
 use Rattle.session.specs.declared.Session.{Session}
 use Rattle.cases.specs.Case.{Report, unsafe, session, noOrder, Brought, Replies}
@@ -37,6 +40,9 @@ replies-on xs places sums b s (r ∷ rs) h = λ got p.
     (p .reply ∙ ap replyTo same ∙ h .0, subst (λ t. Replies (length xs) places sums t rs) (sym next) (replies-on xs places sums b _ rs (h .1)))
 
 module _ (bytes : List ℕ) (k : Contract) (read : parse bytes ≡ ok k) (xs : List State) where
+  rising : Rising (dealBy k noOrder)
+  rising = contract-rising k _ (parsed-valid bytes k read)
+
   -- the promise of the check, by the contract and the plan
   checks : (places sums : List ℕ) (answer : Res (Unit {0})) → Brought xs places sums
       → Checks (aheadOfCheck bytes (length xs) places sums noOrder) answer noOrder (planIn (length xs) places sums)
@@ -55,14 +61,14 @@ module _ (bytes : List ℕ) (k : Contract) (read : parse bytes ≡ ok k) (xs : L
   -- steps that are no plan are refused
   pub not-accepted : isPlan (dealBy k noOrder) xs ≡ false → Right bytes (ok k) (unsafe xs 12)
   not-accepted e =
-      let none : SafeAlong k noOrder xs → ⊥ = λ safe. false≢true (sym e ∙ plan↔ _ xs .1 (safe .plan)) in
+      let none : SafeAlong k noOrder xs → ⊥ = λ safe. false≢true (sym e ∙ plan↔ _ rising xs .1 (safe .plan)) in
       record { claim = none; only = λ places sums answer b c. refuses none answer (checks places sums answer b c) }
 
   -- a plan is accepted, and its reports get their replies
   pub session-runs : namesOrder k noOrder ≡ true → isPlan (dealBy k noOrder) xs ≡ true → (reports : List Report)
       → RepliesOn xs (opened xs) reports → Right bytes (ok k) (session xs reports)
   session-runs named e reports replies =
-      let safe : SafeAlong k noOrder xs = record { named = named; plan = plan↔ _ xs .0 e } in
+      let safe : SafeAlong k noOrder xs = record { named = named; plan = plan↔ _ rising xs .0 e } in
       record {
         claim = safe;
         only = λ places sums answer s b o.

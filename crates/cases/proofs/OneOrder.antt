@@ -26,7 +26,7 @@ use Rattle.exchange.proofs.GivenOrder.Greedy.{floor-up}
 use Rattle.exchange.proofs.GivenOrder.Opening.{opening-start}
 use Rattle.exchange.proofs.GivenOrder.RuleLaws.{rule-greedy}
 use Rattle.exchange.proofs.GivenOrder.Run.{state-eq}
-use Rattle.exchange.proofs.TestLaws.{test↔, startSafe}
+use Rattle.exchange.proofs.TestLaws.{startSafe, startSafe↔}
 use Rattle.planning.specs.Deals.{dealFor}
 use Rattle.planning.specs.Promise.{ByRule, StepsGo, Ours}
 use Rattle.planning.proofs.LinePlan.{claimed}
@@ -138,6 +138,6 @@ module _ (d : Deal) (l : Line d) where
   rule-ours xs s f o =
       let are = rule-all start xs (s .by-rule) in
       let arrives = ends-first d start (length xs) (rw are (s .first)) in
-      let plan = ruled-plan d (l .rises) (l .counts) (test↔ d 0 0 .0 (s .safe)) (length xs) (arrives .there) in
+      let plan = ruled-plan d (l .rises) (l .counts) (startSafe↔ d .0 (s .safe)) (length xs) (arrives .there) in
       claimed f d (l .rises) (l .counts) (form-rule f o d) (plan-possible _ plan) (length xs) xs refl Objective.Steps
       (record { ruled-steps = length xs; arrives = arrives; steps-are = sym (opening-start (ruled d start (length xs)) ∙ are) })

@@ -14,4 +14,4 @@ use Rattle.cases.proofs.AllFacts.{_and_, AllRead}
 
 pub all-read : AllRead cases
 unfolding ones onesIn num upTo column entries rowsOf lessOne largestBelow rising bitAt bitsFrom bitCount standing filled field ranged money amount formOf amounts headAt costValue segment segments segmentCount segmentContract segmentBody unitsAt allWithin gridAt gridsAt tableAt cellsOf tableContract tableEnd tableBody parse
-all-read = refl and refl and refl and refl and refl and refl and refl and refl and refl and refl and refl and refl and refl and tt
+all-read = refl and refl and refl and refl and refl and refl and refl and refl and refl and refl and refl and refl and refl and refl and refl and refl and refl and tt

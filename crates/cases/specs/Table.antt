@@ -1,5 +1,5 @@
--- The paper's cases A to K, and what they do not touch: more questions to the records of A and F, the cases L and M, and the published stock
--- figure.
+-- The paper's cases A to K, and what they do not touch: more questions to the records of A and F, the cases L, M and N, and the published
+-- stock figure.
 use mathlib.Core.List.{List, [], _∷_, _++_}
 use Prim.Native.Nat.{ℕ}
 use lib.IntN.{pos, negℤ}
@@ -106,6 +106,16 @@ fourOf =
       values = 1 ∷ 1 ∷ 2 ∷ 3 ∷ [];
     }
 
+-- case N's record, by P: the map, P, cs 1, cd 2, one item of two units; the costs and the values of rows 0 to 2
+abbrev pub firstRowBytes : ℕ → List ℕ
+firstRowBytes P =
+    39 ∷ 0 ∷ P ∷ 0 ∷ 0 ∷ 0 ∷ 1 ∷ 0 ∷ 0 ∷ 0 ∷ 2 ∷ 0 ∷ 0 ∷ 0 ∷ 1 ∷ 2
+    ∷ 7 ∷ 3 ∷ 0 ∷ 0 ∷ 0 ∷ 5 ∷ 0 ∷ 0 ∷ 0 ∷ 8 ∷ 0 ∷ 0 ∷ 0 ∷ 7 ∷ 2 ∷ 0 ∷ 0 ∷ 0 ∷ 9 ∷ 0 ∷ 0 ∷ 0 ∷ 12 ∷ 0 ∷ 0 ∷ 0 ∷ []
+
+-- what it says: row 0 has a cost and a value, and P is safe at the start from 8 − 3 to 12 − 2
+abbrev pub firstRowOf : ℕ → Contract
+firstRowOf P = record { price = P; supplier = 1; buyer = 2; form = Table; units = 2 ∷ []; costs = 3 ∷ 5 ∷ 8 ∷ []; values = 2 ∷ 9 ∷ 12 ∷ [] }
+
 -- the record of the published stock figure, amounts in cents: the map, P, cs, cd, five items; each with its units, cost and value
 abbrev pub stockBytes : List ℕ
 stockBytes =
@@ -133,6 +143,10 @@ stockOf =
 -- case A's plan
 abbrev pub planA : List State
 planA = at 0 3 ∷ at 1 3 ∷ at 1 7 ∷ at 2 7 ∷ at 2 10 ∷ []
+
+-- case C's plan, from when the start was judged as every other state
+abbrev pub planC : List State
+planC = at 1 0 ∷ at 1 4 ∷ at 2 4 ∷ at 2 7 ∷ []
 
 -- case I: payment 3 is taken, delivery 2 gets 10, delivery 1 is taken
 abbrev pub reportsI : List Report
@@ -196,11 +210,11 @@ cases =
     caseA
     -- B, A with cd 2
     ∷ record { bytes = ladderBytes 10 2; says = ok (ladderOf 10 2); questions = noPlan 9 ∷ [] }
-    -- C, A with P 7
+    -- C, A with P 7, one below vs(L); a plan whose other states are safe is not accepted, also if its first step stays at (0, 0)
     ∷ record {
       bytes = ladderBytes 7 3;
       says = ok (ladderOf 7 3);
-      questions = plan noOrder (at 1 0 ∷ at 1 4 ∷ at 2 4 ∷ at 2 7 ∷ []) ∷ [];
+      questions = noPlan 9 ∷ unsafe planC 12 ∷ unsafe (at 0 0 ∷ planC) 12 ∷ [];
     }
     -- D, A with P 6; the upper bound of the start is negative
     ∷ record { bytes = ladderBytes 6 3; says = ok (ladderOf 6 3); questions = bounds 0 (pos 0) (negℤ (pos 1)) ∷ noPlan 9 ∷ [] }
@@ -232,6 +246,11 @@ cases =
     ∷ record { bytes = blankBytes; says = ok blankOf; questions = bounds 0 (pos 0) (pos 2) ∷ plan noOrder (at 1 2 ∷ at 1 6 ∷ at 3 6 ∷ []) ∷ [] }
     -- M
     ∷ record { bytes = fourBytes; says = ok fourOf; questions = plan (2 ∷ 1 ∷ 3 ∷ 4 ∷ 0 ∷ 0 ∷ 0 ∷ 0 ∷ []) planM ∷ [] }
+    -- N, at the least and the most price of a safe start, and one coin outside
+    ∷ record { bytes = firstRowBytes 5; says = ok (firstRowOf 5); questions = plan noOrder (at 1 1 ∷ at 1 3 ∷ at 2 3 ∷ at 2 5 ∷ []) ∷ [] }
+    ∷ record { bytes = firstRowBytes 4; says = ok (firstRowOf 4); questions = noPlan 9 ∷ [] }
+    ∷ record { bytes = firstRowBytes 10; says = ok (firstRowOf 10); questions = plan noOrder (at 0 6 ∷ at 1 6 ∷ at 1 8 ∷ at 2 8 ∷ at 2 10 ∷ []) ∷ [] }
+    ∷ record { bytes = firstRowBytes 11; says = ok (firstRowOf 11); questions = noPlan 9 ∷ [] }
     -- the stock figure
     ∷ record { bytes = stockBytes; says = ok stockOf; questions = plan (3 ∷ 5 ∷ 4 ∷ 1 ∷ 2 ∷ 0 ∷ 0 ∷ 0 ∷ []) planStock ∷ [] }
     ∷ []

@@ -2,7 +2,7 @@
 use mathlib.Core.Path.{_≡_, refl, sym, ap, _∙_, subst}
 use mathlib.Core.Logic.{_↔_}
 use mathlib.Core.Bool.{Bool, true, false, not}
-use mathlib.Core.List.{List}
+use mathlib.Core.List.{List, []}
 use Prim.Native.Nat.{ℕ, _+_, _-_, _≤_, _<_}
 use native.Mathlib.Numerals.{add-one}
 use native.Mathlib.Omega.{arith}
@@ -17,21 +17,23 @@ use Rattle.grid.proofs.RowLaws.{rows-pos}
 use Rattle.contract.specs.Res.{refused}
 use Rattle.contract.specs.Valid.{Valid}
 use Rattle.contract.specs.declared.Form.the-variants.{Table}
-use Rattle.exchange.specs.Deal.{Deal, State, Step, Steps, Plan, start, ends}
-use Rattle.exchange.specs.Forms.{table, holdsRow}
+use Rattle.exchange.specs.Deal.{Deal, State, Safe, Step, Steps, Plan, start, ends}
+use Rattle.exchange.specs.Forms.{tableTerms, table, holdsRow}
 use Rattle.exchange.specs.PlanIn.{planIn}
-use Rattle.exchange.specs.Test.{boundsAt, stepTest}
+use Rattle.exchange.specs.Test.{boundsAt, startTest, stepTest}
+use Rattle.exchange.specs.Work.{Rising}
 use Rattle.exchange.specs.declared.Sides.{Sides}
+use Rattle.exchange.proofs.Bridge.{plan-start}
 use Rattle.exchange.proofs.GivenOrder.Run.{state-eq}
-use Rattle.exchange.proofs.FormLaws.{table-rising}
 use Rattle.exchange.proofs.PlanInLaws.{entryIn, plan-none, plan-step, plan-next, plan-end}
-use Rattle.exchange.proofs.TestLaws.{step↔}
+use Rattle.exchange.proofs.TestLaws.{start-test↔, step↔}
 use Rattle.held.specs.Words.{holdsWord}
 use Rattle.held.proofs.WordLaws.{held-word}
 use Rattle.line.specs.CheckCode.{passes}
 use Rattle.line.proofs.CheckLaws.{passes-step}
 use Rattle.planning.specs.Deals.{contractWith}
-use Rattle.planning.proofs.TablePlan.{few-items, costs-rows, values-rows, few-rows, cells-rise}
+use Rattle.planning.proofs.TablePlan.{few-items, costs-rows, values-rows, few-rows}
+use Rattle.planning.proofs.FormRising.{form-rising}
 use Rattle.bounds.specs.Places.{rowBounds}
 use Rattle.checks.specs.Brought.{Brought, Ready}
 use Rattle.checks.specs.declared.rows.Terms.{Terms}
@@ -53,8 +55,7 @@ module _ {t : Terms} {us held cs vs : List ℕ} (valid : Valid (contractWith Tab
   bounds-rise h =
       let lc = costs-rows (t .sides) us cs vs valid in
       let lv = values-rows (t .sides) us cs vs valid in
-      let up = cells-rise (t .sides) us cs vs valid in
-      let r = table-rising (t .sides) us cs vs lc lv (up .costs-rise) (up .values-rise) in
+      let r = form-rising Table (t .sides) us cs vs [] valid in
       let i : a ≤ rowsOf us - 1 = omega arith in
       let j : b ≤ rowsOf us - 1 = omega arith in
       rw (lc, lv) (r .lower-rises a b i j h, r .upper-rises a b i j h)
@@ -89,8 +90,9 @@ module _ (s : Sides) (us cs vs : List ℕ) (n : ℕ) (places sums : List ℕ) wh
   abbrev d : Deal
   d = table s us cs vs
 
-  -- the first i entries are steps, and the row and the payment stand after them
+  -- the start is safe, the first i entries are steps, and the row and the payment stand after them
   pub record Passed (row paid i : ℕ) : Type 0 where
+    pub start-safe : Safe d 0 0
     pub within : i ≤ n
     pub at : row < length cs
     pub steps : Steps d start (planIn i places sums)
@@ -123,9 +125,30 @@ module _ (s : Sides) (us cs vs : List ℕ) (n : ℕ) (places sums : List ℕ) wh
     sums-hold : n ≤ length (entries 4 sums)
     sums-hold = held-entries n places sums (b .held) .1
 
-    pub passed-start : Passed 0 0 0
-    passed-start =
-        record { within = omega arith; at = some-rows; steps = rw (plan-none places sums) tt; state-is = rw (plan-none places sums) }
+    rising : Rising d
+    rising = form-rising Table s us cs vs [] (b .valid)
+
+    -- the test of the start
+    module _ {r : Bool} (e : r ≡ startTest (s .price) (getD cs (length cs - 1) 0) (getD cs 0 0) (getD vs (length cs - 1) 0) (getD vs 0 0)) where
+      start-test : (r ≡ true) ↔ Safe d 0 0
+      start-test = rw (e, costs-rows s us cs vs (b .valid)) (start-test↔ (tableTerms s us cs vs) (holdsRow us))
+
+      -- no plan sets out from an unsafe start
+      pub unsafe-start : not r ≡ true → Judges d (planIn n places sums) (refused 12)
+      unsafe-start y = none (λ p. subst T (sym (start-test .1 (plan-start d (rising) _ p)) ∙ not-true r y) tt)
+
+      pub started : not r ≡ false → Safe d 0 0
+      started y = start-test .0 (not-false r y)
+
+    pub passed-start : Safe d 0 0 → Passed 0 0 0
+    passed-start safe =
+        record {
+          start-safe = safe;
+          within = omega arith;
+          at = some-rows;
+          steps = rw (plan-none places sums) tt;
+          state-is = rw (plan-none places sums);
+        }
 
     module _ {row paid i : ℕ} (g : Passed row paid i) where
       -- the tests of the end
@@ -169,7 +192,7 @@ module _ (s : Sides) (us cs vs : List ℕ) (n : ℕ) (places sums : List ℕ) wh
             -- the test of the step
             tested : (r ≡ true) ↔ Step d (record { place = row; paid = paid }) (record { place = next; paid = sum })
             tested =
-                let q = step↔ d (record { place = row; paid = paid }) (record { place = next; paid = sum }) (omega (arith, costs-rows s us cs vs (b .valid))) in
+                let q = step↔ d (rising) (g .start-safe) (record { place = row; paid = paid }) (record { place = next; paid = sum }) (omega (arith, costs-rows s us cs vs (b .valid))) in
                 let f : r ≡ stepTest (holdsRow us row next) (boundsAt d row) (boundsAt d next) paid sum (s .price) =
                 e ∙ rw (row-bounds-are s us cs vs (b .valid) row, row-bounds-are s us cs vs (b .valid) next) in
                 (λ y. q .0 (sym f ∙ y), λ y. f ∙ q .1 y)
@@ -183,6 +206,7 @@ module _ (s : Sides) (us cs vs : List ℕ) (n : ℕ) (places sums : List ℕ) wh
                 let hs : i < length (entries 4 sums) = omega (arith, sums-hold) in
                 rw (add-one i)
                 (record {
+                  start-safe = g .start-safe;
                   within = h;
                   at = next-within;
                   steps = plan-next places sums i hp hs (Step d) start (g .steps) (rw (g .state-is, entry) (tested .0 (not-false r y)));

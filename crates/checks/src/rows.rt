@@ -4,6 +4,7 @@ ghost use Prim.Native.Nat.{_<_};
 ghost use lib.ListN.{length};
 ghost use Rattle.contract.specs.Valid.{Valid};
 ghost use Rattle.contract.specs.declared.Form.the-variants.{Table};
+ghost use Rattle.exchange.specs.Deal.{Safe};
 ghost use Rattle.exchange.specs.Forms.{table, holdsRow};
 ghost use Rattle.exchange.specs.PlanIn.{planIn};
 ghost use Rattle.exchange.specs.Test.{stepTest};
@@ -43,7 +44,8 @@ fn is_step(
     held::word_holds(held[from], held[to])
 }
 
-// Whether the first entries of the areas are steps over the rows from the start to the end, by the units of the rows.
+// Whether the first entries of the areas are steps over the rows from a safe start to the end, by the units of the rows. Every state of a
+// step is then judged by the bounds of its row, (0, 0) too.
 fn follow_steps(
     t: Terms,
     units: &[u16],
@@ -54,7 +56,7 @@ fn follow_steps(
     places: &[u8],
     sums: &[u8],
 ) -> Checked
-    requires { ⌜ Brought (contractWith Table (t .sides) (now units) (now costs) (now values)) count (now places) (now sums) × Ready t (now units) (now held) (now costs) (now values) ⌝ }
+    requires { ⌜ Brought (contractWith Table (t .sides) (now units) (now costs) (now values)) count (now places) (now sums) × Ready t (now units) (now held) (now costs) (now values) × Safe (table (t .sides) (now units) (now costs) (now values)) 0 0 ⌝ }
     ensures { λ r. ⌜ Judges (table (t .sides) (now (units .entry)) (now (costs .entry)) (now (values .entry))) (planIn count (now (places .entry)) (now (sums .entry))) (checkedOf r) ⌝ }
 {
     let last = costs.len() - 1;
@@ -105,6 +107,9 @@ pub(crate) fn follow(
             value: values[last],
         },
     };
+    if !exchange::start_safe(sides.price, t.all.cost, costs[0], t.all.value, values[0]) {
+        return Checked::Unsafe;
+    }
     let held = grid::all_units(units);
     follow_steps(t, units, &held, costs, values, count, places, sums)
 }

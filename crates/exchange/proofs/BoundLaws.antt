@@ -2,14 +2,14 @@
 use mathlib.Core.Path.{_≡_}
 use mathlib.Core.Logic.{_↔_, Iff·trans}
 use mathlib.Core.Bool.{Bool}
-use Prim.Native.Nat.{ℕ, _+_, _≤_}
+use Prim.Native.Nat.{ℕ, zero, suc, _+_, _≤_, _<_}
 use native.Mathlib.Omega.{arith}
-use lib.IntN.{pos, subℕ}
+use lib.IntN.{pos, subℕ, _-ℤ_}
 use lib.Signed.{_≤ℤ_, ≤ℤ-refl}
-use Rattle.exchange.specs.Bounds.{Terms, unclippedUpperOf, unclippedLowerOf, upperOf, lowerOf, SupplierGains, BuyerGains}
-use Rattle.exchange.specs.Deal.{dealOf, Safe}
+use Rattle.exchange.specs.Bounds.{Terms, unclippedUpperOf, unclippedLowerOf, upperOf, lowerOf, leastPrice, mostPrice, borne, SupplierGains, BuyerGains}
+use Rattle.exchange.specs.Deal.{dealOf, WithinBounds, StartSafe, Safe}
 use Rattle.exchange.proofs.Int.{pos-is, pos-sub, sub-add, sub-sub, ≤-sub, not-less, ≤-trans, ≤-min, max-≤}
-use Rattle.exchange.proofs.Bridge.{coins-low}
+use Rattle.exchange.proofs.Bridge.{coins-low, safe-start↔}
 
 -- ---- a bound as a difference of two sums
 
@@ -74,39 +74,79 @@ lower-rises P vdL cd h =
 
 -- ---- safe states
 
--- a safe state, with no subtraction
-pub record SafeSums (t : Terms) (x p : ℕ) : Type 0 where
-  pub low : t .price + t .value x ≤ p + (t .value (t .last) + t .buyer)
-  pub high : p + t .cost (t .last) ≤ t .price + t .cost x + t .supplier
+-- "P lies from vs(L) − vs(0) .."
+pub least↔ : (P vsL vs0 : ℕ) → ((pos vsL -ℤ pos vs0) ≤ℤ pos P) ↔ (vsL ≤ P + vs0)
+least↔ P vsL vs0 = rw (pos-sub vsL vs0, pos-is P) (Iff·trans (≤-sub vsL vs0 P 0) (omega arith))
+
+-- ".. to vd(L) − vd(0)"
+pub most↔ : (P vdL vd0 : ℕ) → (pos P ≤ℤ (pos vdL -ℤ pos vd0)) ↔ (P + vd0 ≤ vdL)
+most↔ P vdL vd0 = rw (pos-sub vdL vd0, pos-is P) (Iff·trans (≤-sub P 0 vdL vd0) (omega arith))
+
+-- a state that a firm leaves at the costs cs and cd, with no subtraction
+pub record Sums (t : Terms) (x p cs cd : ℕ) : Type 0 where
+  pub low : t .price + t .value x ≤ p + (t .value (t .last) + cd)
+  pub high : p + t .cost (t .last) ≤ t .price + t .cost x + cs
   pub within : p ≤ t .price
 
-module _ (t : Terms) (holds : ℕ → ℕ → Bool) (x p : ℕ) where
-  -- the one law that turns the paper's integers into sums
-  pub safe↔ : Safe (dealOf t holds) x p ↔ SafeSums t x p
-  safe↔ =
+module _ (t : Terms) (holds : ℕ → ℕ → Bool) where
+  within↔ : (x p : ℕ) → WithinBounds (dealOf t holds) x p ↔ Sums t x p (t .supplier) (t .buyer)
+  within↔ x p =
       let low = low↔ (t .price) (t .value (t .last)) (t .value x) (t .buyer) p in
       let high = high↔ (t .price) (t .cost (t .last)) (t .cost x) (t .supplier) p in (
         λ s. record { low = low .0 (s .low); high = high (s .within) .0 (s .high); within = s .within },
         λ s. record { low = low .1 (s .low); high = high (s .within) .1 (s .high); within = s .within },
       )
 
-  supplier-stays : (SupplierGains t x p → ⊥) ↔ (p + t .cost (t .last) ≤ t .price + t .cost x + t .supplier)
+  pub start↔ : StartSafe (dealOf t holds) ↔ Sums t 0 0 0 0
+  unfolding leastPrice mostPrice
+  start↔ =
+      let least = least↔ (t .price) (t .cost (t .last)) (t .cost 0) in
+      let most = most↔ (t .price) (t .value (t .last)) (t .value 0) in (
+        λ s. record { low = omega (arith, most .0 (s .most)); high = omega (arith, least .0 (s .least)); within = omega arith },
+        λ s. record { least = least .1 (omega (arith, s .high)); most = most .1 (omega (arith, s .low)) },
+      )
+
+  -- no leaving cost is below 0, so a safe start lies within the bounds of place 0
+  pub start-within : StartSafe (dealOf t holds) → WithinBounds (dealOf t holds) 0 0
+  start-within s =
+      let n = start↔ .0 s in within↔ 0 0 .1 (record { low = omega (arith, n .low); high = omega (arith, n .high); within = n .within })
+
+  moved↔ : (x p : ℕ) → 0 < x + p → Safe (dealOf t holds) x p ↔ WithinBounds (dealOf t holds) x p
+  moved↔ x p h = (λ s. s .moved h, λ w. record { unmoved = λ e. absurd (omega arith); moved = λ _. w })
+
+  -- the one law that turns the paper's integers into sums: of (0, 0) with no leaving cost, of every other state with all of it
+  pub safe↔ : (x p : ℕ) → Safe (dealOf t holds) x p ↔ Sums t x p (borne (t .supplier) x p) (borne (t .buyer) x p)
+  unfolding borne
+  safe↔ zero zero = Iff·trans safe-start↔ start↔
+  safe↔ zero (suc p) = Iff·trans (moved↔ 0 (suc p) (omega arith)) (within↔ 0 (suc p))
+  safe↔ (suc x) p = Iff·trans (moved↔ (suc x) p (omega arith)) (within↔ (suc x) p)
+
+  pub end-safe : Safe (dealOf t holds) (t .last) (t .price)
+  end-safe = safe↔ (t .last) (t .price) .1 (record { low = omega arith; high = omega arith; within = omega arith })
+
+module _ (t : Terms) (x p : ℕ) where
+  supplier-stays : (SupplierGains t x p → ⊥) ↔ (p + t .cost (t .last) ≤ t .price + t .cost x + borne (t .supplier) x p)
   unfolding SupplierGains
   supplier-stays =
+      let c = borne (t .supplier) x p in
       Iff·trans not-less
-      (rw (pos-sub p (t .cost x), sub-sub p (t .cost x) (t .supplier), pos-sub (t .price) (t .cost (t .last)))
-      (Iff·trans (≤-sub p (t .cost x + t .supplier) (t .price) (t .cost (t .last))) (omega arith)))
+      (rw (pos-sub p (t .cost x), sub-sub p (t .cost x) c, pos-sub (t .price) (t .cost (t .last)))
+      (Iff·trans (≤-sub p (t .cost x + c) (t .price) (t .cost (t .last))) (omega arith)))
 
-  buyer-stays : (BuyerGains t x p → ⊥) ↔ (t .price + t .value x ≤ p + (t .value (t .last) + t .buyer))
+  buyer-stays : (BuyerGains t x p → ⊥) ↔ (t .price + t .value x ≤ p + (t .value (t .last) + borne (t .buyer) x p))
   unfolding BuyerGains
   buyer-stays =
+      let c = borne (t .buyer) x p in
       Iff·trans not-less
-      (rw (pos-sub (t .value x) p, sub-sub (t .value x) p (t .buyer), pos-sub (t .value (t .last)) (t .price))
-      (Iff·trans (≤-sub (t .value x) (p + t .buyer) (t .value (t .last)) (t .price)) (omega arith)))
+      (rw (pos-sub (t .value x) p, sub-sub (t .value x) p c, pos-sub (t .value (t .last)) (t .price))
+      (Iff·trans (≤-sub (t .value x) (p + c) (t .value (t .last)) (t .price)) (omega arith)))
 
-  -- "Where 0 ≤ paid ≤ P, a state is safe exactly if neither gains"
-  pub safe-neither : p ≤ t .price → Safe (dealOf t holds) x p ↔ ((SupplierGains t x p → ⊥) × (BuyerGains t x p → ⊥))
-  safe-neither w = (
-    λ s. let n = safe↔ .0 s in (supplier-stays .1 (n .high), buyer-stays .1 (n .low)),
-    λ f. safe↔ .1 (record { low = buyer-stays .0 (f .1); high = supplier-stays .0 (f .0); within = w }),
-  )
+-- "Where 0 ≤ paid ≤ P, a state is safe exactly if neither gains"
+pub safe-neither : (t : Terms) (holds : ℕ → ℕ → Bool) (x p : ℕ) → p ≤ t .price
+    → Safe (dealOf t holds) x p ↔ ((SupplierGains t x p → ⊥) × (BuyerGains t x p → ⊥))
+safe-neither t holds x p w =
+    let supplier = supplier-stays t x p in
+    let buyer = buyer-stays t x p in (
+      λ s. let n = safe↔ t holds x p .0 s in (supplier .1 (n .high), buyer .1 (n .low)),
+      λ f. safe↔ t holds x p .1 (record { low = buyer .0 (f .1); high = supplier .0 (f .0); within = w }),
+    )

@@ -9,8 +9,8 @@ use borrow.Author.Tests.{ltb-false, lt-ltb}
 use lib.Dec.{leb, ltb, le→leb}
 use lib.IntN.{ℤ, pos, negsuc}
 use lib.Signed.{_<ℤ_, clashℤ}
-use Rattle.exchange.specs.Bounds.{Terms, minℤ, maxℤ, unclippedUpperOf, unclippedLowerOf, upperOf, lowerOf}
-use Rattle.exchange.specs.Deal.{Deal, State, Safe, Step, Steps, Chain, Plan, dealOf, unclipped, start}
+use Rattle.exchange.specs.Bounds.{Terms, minℤ, maxℤ, unclippedUpperOf, unclippedLowerOf, upperOf, lowerOf, upper, lower, unclippedUpper, unclippedLower}
+use Rattle.exchange.specs.Deal.{Deal, State, WithinBounds, Safe, Step, Steps, Chain, Plan, withBounds, dealOf, unclipped, start}
 use Rattle.exchange.specs.Forms.{orderTerms, line}
 use Rattle.exchange.specs.Rule.{coins, reach, rule, ruled}
 use Rattle.exchange.specs.Possible.{Possible}
@@ -23,7 +23,7 @@ use Rattle.exchange.specs.declared.Objective.{Objective}
 use Rattle.exchange.specs.declared.Sides.{Sides}
 use Rattle.exchange.proofs.Int.{≤-trans, ≤-min, max-≤}
 use Rattle.exchange.proofs.BoundLaws.{high-same, low-same}
-use Rattle.exchange.proofs.Bridge.{reach-floor}
+use Rattle.exchange.proofs.Bridge.{reach-floor, safe-within}
 
 -- ---- as sums of coins
 
@@ -52,13 +52,21 @@ most-same P vsL vs cs = coins-up-to (unclippedUpperOf P vsL vs cs) P
 
 -- ---- two deals that differ in their bounds alone, and have the same safe states, payments and deliveries
 
-module _ (P L : ℕ) (holds : ℕ → ℕ → Bool) where
+module _ (t : Terms) (holds : ℕ → ℕ → Bool) where
   abbrev by : (ℕ → ℤ) → (ℕ → ℤ) → Deal
-  by upper lower = record { price = P; last = L; upper = upper; lower = lower; holds = holds }
+  by upper lower = withBounds upper lower t holds
+
+  -- the start is judged by neither bound
+  safe-by : {u l u′ l′ : ℕ → ℤ} {x p : ℕ} → (WithinBounds (by u l) x p → WithinBounds (by u′ l′) x p) → Safe (by u l) x p → Safe (by u′ l′) x p
+  safe-by same s =
+      record {
+        unmoved = λ e. let h = s .unmoved e in record { least = h .least; most = h .most };
+        moved = λ m. same (s .moved m);
+      }
 
   record Same (u l u′ l′ : ℕ → ℤ) : Type 0 where
     safe : (x p : ℕ) → Safe (by u l) x p ↔ Safe (by u′ l′) x p
-    most : (x : ℕ) → min (coins (u x)) P ≡ min (coins (u′ x)) P
+    most : (x : ℕ) → min (coins (u x)) (t .price) ≡ min (coins (u′ x)) (t .price)
     least : (x : ℕ) → coins (l x) ≡ coins (l′ x)
 
   turned : {u l u′ l′ : ℕ → ℤ} → Same u l u′ l′ → Same u′ l′ u l
@@ -94,7 +102,7 @@ module _ (P L : ℕ) (holds : ℕ → ℕ → Bool) where
 
     rule-same : (a : State) → rule (by u l) a ≡ rule (by u′ l′) a
     unfolding rule
-    rule-same a = rw (reach-same (a .paid) L, s .most (a .place))
+    rule-same a = rw (reach-same (a .paid) (t .last), s .most (a .place))
 
     ruled-same : (a : State) (n : ℕ) → ruled (by u l) a n ≡ ruled (by u′ l′) a n
     unfolding ruled
@@ -161,15 +169,17 @@ module _ (P L : ℕ) (holds : ℕ → ℕ → Bool) where
         earliest = λ xs. (earliest s (plan (turned s)) xs, earliest (turned s) (plan s) xs);
       }
 
--- ---- a deal and the deal ahead of W4
+-- ---- a deal and the deal with the same amounts by the unclipped bounds
 
 pub clipped-same : (t : Terms) (holds : ℕ → ℕ → Bool) → SamePlans (dealOf t holds) (unclipped t holds)
 clipped-same t holds =
-    same-plans (t .price) (t .last) holds
+    same-plans t holds {u = upper t} {l = lower t} {u′ = unclippedUpper t} {l′ = unclippedLower t}
     (record {
       safe = λ x p. (
-        λ s. record { low = low-same _ _ _ _ p .0 (s .low); high = high-same _ _ _ _ p (s .within) .0 (s .high); within = s .within },
-        λ s. record { low = low-same _ _ _ _ p .1 (s .low); high = high-same _ _ _ _ p (s .within) .1 (s .high); within = s .within },
+        safe-by t holds
+            (λ w. record { low = low-same _ _ _ _ p .0 (w .low); high = high-same _ _ _ _ p (w .within) .0 (w .high); within = w .within }),
+        safe-by t holds
+            (λ w. record { low = low-same _ _ _ _ p .1 (w .low); high = high-same _ _ _ _ p (w .within) .1 (w .high); within = w .within }),
       );
       most = λ x. most-same _ _ _ _;
       least = λ x. least-same _ _ _ _;
@@ -189,17 +199,17 @@ possible-same t r =
           record {
             start-safe = safe .1 (h .start-safe);
             no-gap = λ i l.
-                let from = ≤-trans (safe .1 (h .start-safe) .high) (r .upper-rises 0 i (omega arith) (omega arith) (r .holds-start i)) in
-                let to = ≤-trans (r .lower-rises (suc i) (t .last) l (omega arith) (le→leb (suc i) (t .last) l)) (r .lower-last) in
+                let from = ≤-trans (safe-within (line t) r 0 0 (safe .1 (h .start-safe)) .high) (r .upper-rises 0 i (omega arith) (omega arith) (r .holds-start i)) in
+                let to = ≤-trans (r .lower-rises (suc i) (t .last) l (omega arith) (le→leb (suc i) (t .last) l)) (safe-within (line t) r _ _ (r .end-safe) .low) in
                 ≤-min _ _ _ .1 (max-≤ _ (pos 0) _ .1 (h .no-gap i l, ≤-min _ _ _ .0 from .0), to);
           },
     )
 
 -- "A negative upper bound .. shows that the start isn't safe", of whatever place it is
 pub negative-unsafe : (d : Deal) → Rising d → (x : ℕ) → x ≤ d .last → d .upper x <ℤ pos 0 → Safe d 0 0 → ⊥
-negative-unsafe d r x l h s = clashℤ h (≤-trans (s .high) (r .upper-rises 0 x (omega arith) l (r .holds-start x)))
+negative-unsafe d r x l h s = clashℤ h (≤-trans (safe-within d r 0 0 s .high) (r .upper-rises 0 x (omega arith) l (r .holds-start x)))
 
--- the order that is chosen is W2's own, of the deal ahead of W4
+-- the order that is chosen is W2's own, by the unclipped bounds
 pub order-same : (p : Sides) (units costs values items : List ℕ)
     → IsChosen p units costs values items
     ≡ InChosenOrder (unclipped (orderTerms p costs values (together units items)) leb) units costs values items

@@ -14,7 +14,7 @@ use Rattle.exchange.specs.Deal.{dealOf}
 use Rattle.exchange.specs.Forms.{along, ladderTerms, orderTerms, line, ladder, inOrder, holdsRow, table}
 use Rattle.exchange.specs.Work.{Rising}
 use Rattle.exchange.specs.declared.Sides.{Sides}
-use Rattle.exchange.proofs.BoundLaws.{high↔, low↔, upper-rises, lower-rises}
+use Rattle.exchange.proofs.BoundLaws.{upper-rises, lower-rises, start-within, end-safe}
 use Rattle.exchange.proofs.TableLaws.{row-self, row-start, rows-rise}
 
 -- up to the last place, no place has less than one whose units it holds
@@ -29,8 +29,8 @@ terms-rising t holds self from-start costs values =
       holds-start = from-start;
       upper-rises = λ a b i j h. upper-rises (t .price) (t .cost (t .last)) (t .supplier) (costs a b i j h);
       lower-rises = λ a b i j h. lower-rises (t .price) (t .value (t .last)) (t .buyer) (values a b i j h);
-      upper-last = high↔ (t .price) (t .cost (t .last)) (t .cost (t .last)) (t .supplier) (t .price) (le-refl _) .1 (omega arith);
-      lower-last = low↔ (t .price) (t .value (t .last)) (t .value (t .last)) (t .buyer) (t .price) .1 (omega arith);
+      start-within = start-within t holds;
+      end-safe = end-safe t holds;
     }
 
 -- ---- along one order

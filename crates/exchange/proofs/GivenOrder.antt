@@ -25,7 +25,7 @@ use Rattle.exchange.specs.Work.{Rising, workOf}
 use Rattle.exchange.specs.Arrival.{Arrives}
 use Rattle.exchange.specs.Possible.{Possible}
 use Rattle.exchange.proofs.Int.{≤-trans}
-use Rattle.exchange.proofs.Bridge.{bridge, lawful, coins-low, coins-high, coins-rise}
+use Rattle.exchange.proofs.Bridge.{bridge, lawful, safe-within, start-covered, coins-low, coins-high, coins-rise}
 use Rattle.exchange.proofs.GivenOrder.Run.{run, first, first-least, after-path}
 use Rattle.exchange.proofs.GivenOrder.Lead as lead
 use Rattle.exchange.proofs.GivenOrder.Greedy.{OnLine, Stands, greedy, greedy-leads, floor-up}
@@ -38,7 +38,7 @@ module _ (d : Deal) (r : Rising d) (counts : (a b : ℕ) → d .holds a b ≡ le
   on-line = record { lawful = lawful d r; counts = counts }
 
   stands : Safe d 0 0 → Stands (workOf d) start
-  stands h = record { in-deal = omega arith; covered = coins-low _ 0 .0 (h .low); afforded = omega arith }
+  stands h = record { in-deal = omega arith; covered = start-covered d r h; afforded = omega arith }
 
   -- the rule's steps are steps
   pub ruled-plan : Safe d 0 0 → (n : ℕ) → ends start (ruled d start n) ≡ end d → Plan d (ruled d start n)
@@ -99,7 +99,7 @@ module _ (d : Deal) (r : Rising d) (counts : (a b : ℕ) → d .holds a b ≡ le
         start-safe = h;
         no-gap = λ i k.
             let c = n i k in
-            let u : pos 0 ≤ℤ d .upper i = ≤-trans (h .high) (r .upper-rises 0 i (omega arith) (omega arith) (r .holds-start i)) in
+            let u : pos 0 ≤ℤ d .upper i = ≤-trans (safe-within d r 0 0 h .high) (r .upper-rises 0 i (omega arith) (omega arith) (r .holds-start i)) in
             ≤-trans (coins-low (d .lower (suc i)) _ .1 (le-refl _)) (coins-high _ 0 u _ .1 (omega arith));
       }
 

@@ -18,7 +18,7 @@ use Rattle.exchange.specs.Arrival.{Arrives}
 use Rattle.exchange.specs.Possible.{Possible}
 use Rattle.exchange.specs.Objectives.{rises, count, pays, delivers, moves, deliveryOnly, paymentOnly, opening, Opens, smaller, PlanFor, counted, Least}
 use Rattle.exchange.specs.declared.Objective.{Objective}
-use Rattle.exchange.proofs.Bridge.{bridge, coins-low}
+use Rattle.exchange.proofs.Bridge.{bridge, start-covered}
 use Rattle.exchange.proofs.GivenOrder.{on-line, to-work, ruled-plan, ruled-least, ruled-short}
 use Rattle.exchange.proofs.GivenOrder.Run.{path, First}
 use Rattle.exchange.proofs.GivenOrder.Lead.{path-chain}
@@ -84,7 +84,7 @@ module _ (d : Deal) (r : Rising d) (counts : (a b : ℕ) → d .holds a b ≡ le
 
   -- the lower bound of place 0 is covered by nothing paid
   low : workOf d .floor 0 ≤ 0
-  low = coins-low _ 0 .0 (p .start-safe .low)
+  low = start-covered d r (p .start-safe)
 
   -- ---- a first step to f, and then the rule
 

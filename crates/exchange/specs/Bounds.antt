@@ -1,6 +1,6 @@
 -- The two bounds of a place, and who gains by defecting, as the papers write them, over the integers.
 use mathlib.Core.Bool.{cond}
-use Prim.Native.Nat.{ℕ}
+use Prim.Native.Nat.{ℕ, zero, suc}
 use lib.IntN.{ℤ, pos, _+ℤ_, _-ℤ_}
 use lib.Signed.{ltZ, _<ℤ_}
 
@@ -54,10 +54,25 @@ unclippedUpper t x = unclippedUpperOf (t .price) (t .cost (t .last)) (t .cost x)
 abbrev pub unclippedLower : Terms → ℕ → ℤ
 unclippedLower t x = unclippedLowerOf (t .price) (t .value (t .last)) (t .value x) (t .buyer)
 
--- the supplier gains by leaving at (place, paid): paid − vs(place) − cs is more than P − vs(L)
-unfoldable pub SupplierGains : Terms → ℕ → ℕ → Type 0
-SupplierGains t x p = (pos (t .price) -ℤ pos (t .cost (t .last))) <ℤ (pos p -ℤ pos (t .cost x) -ℤ pos (t .supplier))
+-- the least price at which the supplier does not lose by the whole deal: vs(L) − vs(0)
+unfoldable pub leastPrice : Terms → ℤ
+leastPrice t = pos (t .cost (t .last)) -ℤ pos (t .cost 0)
 
--- the buyer gains by leaving at (place, paid): vd(place) − paid − cd is more than vd(L) − P
+-- the most at which the buyer does not: vd(L) − vd(0)
+unfoldable pub mostPrice : Terms → ℤ
+mostPrice t = pos (t .value (t .last)) -ℤ pos (t .value 0)
+
+-- what a firm with leaving cost c bears by leaving at (place, paid); W5: "a firm that withdraws while nothing is delivered and nothing
+-- paid bears no leaving cost"
+unfoldable pub borne : ℕ → ℕ → ℕ → ℕ
+borne c zero zero = 0
+borne c zero (suc p) = c
+borne c (suc x) p = c
+
+-- the supplier gains by leaving at (place, paid): paid − vs(place), less cs if it is borne, is more than P − vs(L)
+unfoldable pub SupplierGains : Terms → ℕ → ℕ → Type 0
+SupplierGains t x p = (pos (t .price) -ℤ pos (t .cost (t .last))) <ℤ (pos p -ℤ pos (t .cost x) -ℤ pos (borne (t .supplier) x p))
+
+-- the buyer gains by leaving at (place, paid): vd(place) − paid, less cd if it is borne, is more than vd(L) − P
 unfoldable pub BuyerGains : Terms → ℕ → ℕ → Type 0
-BuyerGains t x p = (pos (t .value (t .last)) -ℤ pos (t .price)) <ℤ (pos (t .value x) -ℤ pos p -ℤ pos (t .buyer))
+BuyerGains t x p = (pos (t .value (t .last)) -ℤ pos (t .price)) <ℤ (pos (t .value x) -ℤ pos p -ℤ pos (borne (t .buyer) x p))

@@ -2,40 +2,66 @@
 use mathlib.Core.Path.{_≡_}
 use mathlib.Core.Bool.{Bool}
 use mathlib.Core.List.{List, [], _∷_}
-use Prim.Native.Nat.{ℕ, zero, suc, _≤_}
+use Prim.Native.Nat.{ℕ, zero, suc, _+_, _≤_, _<_}
 use lib.Dec.{T}
 use lib.IntN.{ℤ, pos}
 use lib.Signed.{_≤ℤ_}
 use Rattle.exchange.specs.Bounds as bounds
-use Rattle.exchange.specs.Bounds.{Terms}
+use Rattle.exchange.specs.Bounds.{Terms, leastPrice, mostPrice}
 
--- a deal: P, the last place, the bounds of each place, and whether place b holds at least the units of place a of every item
+-- a deal: P, the last place, the bounds of each place, the least and the most price of a safe start, and whether place b holds at least
+-- the units of place a of every item
 pub record Deal : Type 0 where
   pub price : ℕ
   pub last : ℕ
   pub upper : ℕ → ℤ
   pub lower : ℕ → ℤ
+  pub least-price : ℤ
+  pub most-price : ℤ
   pub holds : ℕ → ℕ → Bool
+
+-- the deal with these amounts by these upper and lower bounds
+abbrev pub withBounds : (ℕ → ℤ) → (ℕ → ℤ) → Terms → (ℕ → ℕ → Bool) → Deal
+withBounds upper lower t holds =
+    record {
+      price = t .price;
+      last = t .last;
+      upper = upper;
+      lower = lower;
+      least-price = leastPrice t;
+      most-price = mostPrice t;
+      holds = holds;
+    }
 
 -- the deal with these amounts
 abbrev pub dealOf : Terms → (ℕ → ℕ → Bool) → Deal
-dealOf t holds = record { price = t .price; last = t .last; upper = bounds.upper t; lower = bounds.lower t; holds = holds }
+dealOf t = withBounds (bounds.upper t) (bounds.lower t) t
 
--- the deal with these amounts by the unclipped bounds, as it was ahead of W4
+-- the deal with these amounts by the unclipped bounds, as they were ahead of W4
 abbrev pub unclipped : Terms → (ℕ → ℕ → Bool) → Deal
-unclipped t holds =
-    record { price = t .price; last = t .last; upper = bounds.unclippedUpper t; lower = bounds.unclippedLower t; holds = holds }
+unclipped t = withBounds (bounds.unclippedUpper t) (bounds.unclippedLower t) t
 
 -- a state: the place delivered and the sum paid
 pub record State : Type 0 where
   pub place : ℕ
   pub paid : ℕ
 
--- "A state (place, paid) is safe if lower ≤ paid ≤ upper, with 0 ≤ paid ≤ P"
-pub record Safe (d : Deal) (x p : ℕ) : Type 0 where
+-- "lower ≤ paid ≤ upper, with 0 ≤ paid ≤ P"
+pub record WithinBounds (d : Deal) (x p : ℕ) : Type 0 where
   pub low : d .lower x ≤ℤ pos p
   pub high : pos p ≤ℤ d .upper x
   pub within : p ≤ d .price
+
+-- W5: "P lies from vs(L) − vs(0) to vd(L) − vd(0), both ends included"
+pub record StartSafe (d : Deal) : Type 0 where
+  pub least : d .least-price ≤ℤ pos (d .price)
+  pub most : pos (d .price) ≤ℤ d .most-price
+
+-- W5: "The state (0, 0) is now safe if P lies from .. to .. Every other state is judged as before": "A state (place, paid) is safe if
+-- lower ≤ paid ≤ upper, with 0 ≤ paid ≤ P"
+pub record Safe (d : Deal) (x p : ℕ) : Type 0 where
+  pub unmoved : x + p ≡ 0 → StartSafe d
+  pub moved : 0 < x + p → WithinBounds d x p
 
 -- "A step goes from (a, p) to (b, q): b holds at least a's units of every item, q ≥ p, and all four states ..
 -- are safe"

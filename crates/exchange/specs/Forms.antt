@@ -29,6 +29,10 @@ ladderTerms p costs values = termsOf p (length costs) (along (λ c. c) costs) (a
 abbrev pub orderTerms : Sides → List ℕ → List ℕ → List ℕ → Terms
 orderTerms p costs values σ = termsOf p (length σ) (along (λ j. getD costs j 0) σ) (along (λ j. getD values j 0) σ)
 
+-- the amounts of a table, by the units of each item and the cost and the value of each row
+abbrev pub tableTerms : Sides → List ℕ → List ℕ → List ℕ → Terms
+tableTerms p units costs values = termsOf p (rowsOf units - 1) (λ r. getD costs r 0) (λ r. getD values r 0)
+
 -- a deal along one order: places count units, and a later place holds the units of every earlier one
 abbrev pub line : Terms → Deal
 line t = dealOf t leb
@@ -57,5 +61,4 @@ holdsRow (u ∷ us) a b = leb (a / rowsOf us % (u + 1)) (b / rowsOf us % (u + 1)
 
 -- a table, by the units of each item and the cost and the value of each row
 abbrev pub table : Sides → List ℕ → List ℕ → List ℕ → Deal
-table p units costs values =
-    dealOf (termsOf p (rowsOf units - 1) (λ r. getD costs r 0) (λ r. getD values r 0)) (holdsRow units)
+table p units costs values = dealOf (tableTerms p units costs values) (holdsRow units)

@@ -5,20 +5,19 @@ use mathlib.Core.Bool.{Bool}
 use mathlib.Core.List.{List}
 use Prim.Native.Nat.{ℕ, min, _≤_}
 use lib.Dec.{T}
-use lib.IntN.{pos}
 use lib.Signed.{_≤ℤ_}
-use Rattle.exchange.specs.Deal.{Deal, State, Chain, start, ends}
+use Rattle.exchange.specs.Deal.{Deal, State, WithinBounds, StartSafe, Safe, Chain, start, ends}
 use Rattle.exchange.specs.Rule.{coins}
 
--- what the deals of every form have in common: up to the last place no bound falls as units are added, and at the last place the
--- price lies between the bounds
+-- what the deals of every form have in common: up to the last place no bound falls as units are added, a safe start lies within the
+-- bounds of place 0, and the end is safe
 pub record Rising (d : Deal) : Type 0 where
   pub holds-self : (a : ℕ) → T (d .holds a a)
   pub holds-start : (a : ℕ) → T (d .holds 0 a)
   pub upper-rises : (a b : ℕ) → a ≤ d .last → b ≤ d .last → T (d .holds a b) → d .upper a ≤ℤ d .upper b
   pub lower-rises : (a b : ℕ) → a ≤ d .last → b ≤ d .last → T (d .holds a b) → d .lower a ≤ℤ d .lower b
-  pub upper-last : pos (d .price) ≤ℤ d .upper (d .last)
-  pub lower-last : d .lower (d .last) ≤ℤ pos (d .price)
+  pub start-within : StartSafe d → WithinBounds d 0 0
+  pub end-safe : Safe d (d .last) (d .price)
 
 -- the least, floor, and the most, cap, that is paid at each place
 pub record Work : Type 0 where

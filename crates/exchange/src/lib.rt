@@ -1,10 +1,10 @@
-// The numbers of a deal, the answers of planning, the bounds of a place, and the test of a state.
+// The numbers of a deal, the answers of planning, the bounds of a place, and the test of the start.
 ghost use mathlib.Core.Path.{_≡_};
 ghost use Prim.Native.Nat.{min, _<_, _≤_, _^_};
 ghost use lib.IntN.{subℕ};
 ghost use Rattle.exchange.specs.Bounds.{unclippedUpperOf, unclippedLowerOf, upperOf, lowerOf};
 ghost use Rattle.exchange.specs.Rule.{coins};
-ghost use Rattle.exchange.specs.Test.{safeTest};
+ghost use Rattle.exchange.specs.Test.{startTest};
 
 // P and the defection costs of the supplier and the buyer.
 pub struct Sides {
@@ -109,16 +109,20 @@ pub fn least_paid(price: u32, value_last: u32, value_here: u32, buyer: u32) -> u
     lower(price, value_last, value_here, buyer) as u32
 }
 
-// Whether the state (place, paid) is safe, by the bounds of its place.
-pub fn safe(paid: u32, at: Bounds, price: u32) -> bool
-    ensures { λ r. ⌜ r ≡ safeTest paid at price ⌝ }
+// Whether the start, nothing delivered and nothing paid, is safe: the price is no less than the whole deal costs the supplier, and no more
+// than it is worth to the buyer.
+pub fn start_safe(
+    price: u32,
+    cost_last: u32,
+    cost_first: u32,
+    value_last: u32,
+    value_first: u32,
+) -> bool
+    ensures { λ r. ⌜ r ≡ startTest price «cost_last» «cost_first» «value_last» «value_first» ⌝ }
 {
-    let sum = paid as i64;
-    if sum < at.lower {
+    let sum = price as u64;
+    if sum + (cost_first as u64) < cost_last as u64 {
         return false;
     }
-    if at.upper < sum {
-        return false;
-    }
-    paid <= price
+    sum + value_first as u64 <= value_last as u64
 }

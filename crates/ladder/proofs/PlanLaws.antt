@@ -13,6 +13,7 @@ use lib.IntN.{pos}
 use lib.ListN.{getD}
 use lib.Signed.{leZ, _≤ℤ_}
 use Rattle.exchange.specs.Bounds.{lowerOf}
+use Rattle.exchange.specs.Possible.{Possible}
 use Rattle.exchange.specs.Deal.{Deal, State, Safe, Plan}
 use Rattle.exchange.proofs.Int.{leZ-true}
 use Rattle.line.specs.Segments.{spread}
@@ -85,6 +86,10 @@ module _ (l : Ladder) (s : List ℕ) (p : Lies l s) (cf : l .all .cost < 2 ^ 32)
           let most = sum-up (spread (onesIn l) (valuesIn l s)) (suc i) (lineIn l s .last) q in
           rw (← (k .value-is), ← (k .cost-is))
           (leZ-true _ _ .0 (meets cost value .1 (omega (arith, meets 0 (l .all .value) .0 e, most, k .value-is))))
+
+  -- the price covers the whole cost
+  pub covered : Possible (lineIn l s) → l .all .cost ≤ l .sides .price
+  covered q = deals.covered (l .sides) (onesIn l) (costsIn l s) (valuesIn l s) (l .all) (known l s p cf vf) (q .start-safe)
 
   -- ---- a delivery
 

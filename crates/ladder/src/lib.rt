@@ -4,15 +4,14 @@ ghost use mathlib.Core.Bool.{true};
 ghost use Prim.Native.Nat.{_≤_};
 ghost use lib.ListN.{length};
 ghost use Rattle.area.specs.Entries.{entries};
-ghost use Rattle.exchange.specs.Deal.{Safe};
 ghost use Rattle.exchange.specs.PlanIn.{planIn};
 ghost use Rattle.exchange.specs.Test.{boundsAt};
 ghost use Rattle.line.specs.CheckCode.{Judges};
-ghost use Rattle.line.specs.Code.{Decides};
 ghost use Rattle.line.specs.Promise.{Answers};
 ghost use Rattle.ladder.specs.Rises.{Lies, Room, dealIn};
-ghost use Rattle.ladder.specs.Code.{Reached, Delivered, lineIn};
+ghost use Rattle.ladder.specs.Code.{Reached, Delivered};
 
+mod gaps;
 mod opening;
 mod place;
 mod run;
@@ -43,37 +42,6 @@ pub(crate) struct First {
     pub paid: u32,
 }
 
-// Whether the lower bound of each place is at most the upper bound of the place before it.
-fn climbs(l: Ladder, s: &[u8]) -> bool
-    requires { ⌜ Lies l (now s) × Safe (lineIn l (now s)) 0 0 ⌝ }
-    ensures { λ r. ⌜ Decides (lineIn l (now (s .entry))) r ⌝ }
-{
-    let mut c = bottom();
-    while c.place < l.all.units {
-        let to = next(l, s, c);
-        if !line::meets(l.sides, l.all, c.cost, to.value) {
-            return false;
-        }
-        c = to;
-    }
-    true
-}
-
-// Whether a plan exists: the start is safe, and no gap lies between two places. No value is above that of the last place, so often that
-// one is enough, and no unit need be looked at.
-fn possible(l: Ladder, s: &[u8]) -> bool
-    requires { ⌜ Lies l (now s) ⌝ }
-    ensures { λ r. ⌜ Decides (lineIn l (now (s .entry))) r ⌝ }
-{
-    if !line::start_safe(l.sides, l.all) {
-        return false;
-    }
-    if line::meets(l.sides, l.all, 0, l.all.value) {
-        return true;
-    }
-    climbs(l, s)
-}
-
 // On to the greatest place whose lower bound is at most what is paid. Often that is the last one, which needs no look at the units.
 fn deliver(l: Ladder, s: &[u8], from: Rung, paid: u32) -> Rung
     requires { ⌜ Lies l (now s) × Reached l (now s) paid from ⌝ }
@@ -98,7 +66,7 @@ pub fn plan(l: Ladder, s: &[u8], aim: Objective, places: &mut [u8], sums: &mut [
     requires { ⌜ Lies l (now s) × Room l (now places) (now sums) ⌝ }
     ensures { λ r. ⌜ Answers aim (dealIn l (now (s .entry))) true r (now (places .entry)) (now (sums .entry)) (now (places .exit)) (now (sums .exit)) ⌝ }
 {
-    if !possible(l, s) {
+    if !gaps::possible(l, s) {
         return Planned::Impossible;
     }
     let f = opening::first_for(l, s, aim);
@@ -121,11 +89,15 @@ pub fn bounds(l: Ladder, s: &[u8], place: usize) -> Bounds
     bounds_at(l, s, advance(l, s, bottom(), place))
 }
 
-// Whether the first entries of two byte areas, places and paid totals, are a plan.
+// Whether the first entries of two byte areas, places and paid totals, are a plan. With a safe start every state of a step is judged by the
+// bounds of its place, (0, 0) too.
 pub fn check(l: Ladder, s: &[u8], count: usize, places: &[u8], sums: &[u8]) -> bool
     requires { ⌜ Lies l (now s) × (count ≤ length (entries 2 (now places))) × (count ≤ length (entries 4 (now sums))) ⌝ }
     ensures { λ r. ⌜ Judges (dealIn l (now (s .entry))) (planIn count (now (places .entry)) (now (sums .entry))) r ⌝ }
 {
+    if !line::start_safe(l.sides, l.all) {
+        return false;
+    }
     let mut c = bottom();
     let mut paid = 0;
     let mut i = 0;

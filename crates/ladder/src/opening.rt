@@ -1,5 +1,6 @@
 // First steps: none, one that only delivers, one that only pays, and the one to take.
 ghost use mathlib.Core.Path.{_≡_};
+ghost use Prim.Native.Nat.{_≤_};
 ghost use Rattle.exchange.specs.Possible.{Possible};
 ghost use Rattle.exchange.specs.Objectives.{deliveryOnly};
 ghost use Rattle.line.specs.Code.{Counts};
@@ -32,6 +33,7 @@ fn delivery_only(l: Ladder, s: &[u8]) -> First
 
 // A payment only: as much as the rule pays.
 fn payment_only(l: Ladder) -> First
+    requires { ⌜ l .all .cost ≤ l .sides .price ⌝ }
     ensures { λ r. ⌜ firstOf r ≡ afterPayment (l .sides) (l .all) ⌝ }
 {
     let rung = bottom();

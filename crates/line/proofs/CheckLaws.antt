@@ -14,15 +14,16 @@ use lib.Ieee.Bits.{is-true}
 use lib.ListN.{length, getD}
 use Rattle.area.specs.Entries.{entries}
 use Rattle.exchange.specs.Bounds.{upperOf, lowerOf}
-use Rattle.exchange.specs.Deal.{State, Step, Steps, Plan, start, ends}
+use Rattle.exchange.specs.Deal.{State, Safe, Step, Steps, Plan, start, ends}
 use Rattle.exchange.specs.PlanIn.{planIn}
-use Rattle.exchange.specs.Test.{boundsAt, safeTest, stepTest}
+use Rattle.exchange.specs.Test.{boundsAt, startTest, stepTest}
 use Rattle.exchange.specs.declared.Bounds.{Bounds}
 use Rattle.exchange.proofs.Int.{leZ-true, test-same, ≤-trans}
 use Rattle.exchange.proofs.BoundLaws.{upper-rises, lower-rises}
+use Rattle.exchange.proofs.Bridge.{plan-start}
 use Rattle.exchange.proofs.GivenOrder.Run.{state-eq}
 use Rattle.exchange.proofs.PlanInLaws.{entryIn, plan-none, plan-step, plan-next, plan-end}
-use Rattle.exchange.proofs.TestLaws.{step↔}
+use Rattle.exchange.proofs.TestLaws.{within-test↔, step↔}
 use Rattle.line.specs.Segments.{spread, fits, dealAlong}
 use Rattle.line.specs.CheckPromise.{holdsCount}
 use Rattle.line.specs.Code.{sumTo, Fit, Known, At, There, origin}
@@ -31,19 +32,10 @@ use Rattle.line.specs.declared.Cursor.{Cursor}
 use Rattle.exchange.specs.declared.Sides.{Sides}
 use Rattle.line.specs.declared.Totals.{Totals}
 use Rattle.line.proofs.SegmentLaws.{sum-up, at-origin, fits↔, not-so}
+use Rattle.line.proofs.DealLaws.{rising, not-started, started}
 use Rattle.line.proofs.PlaceLaws.{cursor-bounds}
 
 -- ---- the test of a step, where both bounds rise
-
-safe↔ : (p : ℕ) (at : Bounds) (P : ℕ) → (safeTest p at P ≡ true) ↔ ((at .lower ≤ℤ pos p) × (pos p ≤ℤ at .upper) × (p ≤ P))
-unfolding safeTest
-safe↔ p at P = (
-  λ e.
-      let f = and-eq-true-iff _ _ .0 e in
-      let g = and-eq-true-iff _ _ .0 (f .0) in
-      (leZ-true _ _ .0 (g .0), leZ-true _ _ .0 (g .1), leb-true _ _ (f .1)),
-  λ h. rw (leZ-true _ _ .1 (h .0), leZ-true _ _ .1 (h .1), le-leb _ _ (h .2)),
-)
 
 -- what decides where both bounds rise: the lower bound of the later place and the upper bound of the earlier
 record Tests (lower upper : ℤ) (p q P : ℕ) : Type 0 where
@@ -73,8 +65,8 @@ module _ (a b : Bounds) (p q P : ℕ) where
       let g = and-eq-true-iff _ _ .0 (f .0) in
       let h = and-eq-true-iff _ _ .0 (g .0) in
       let j = and-eq-true-iff _ _ .0 (h .0) in
-      let paid = safe↔ q a P .0 (g .1) in
-      record { pays = leb-true _ _ (j .0); within = paid .2; low = safe↔ p b P .0 (h .1) .0; high = paid .1 }
+      let paid = within-test↔ q a P .0 (g .1) in
+      record { pays = leb-true _ _ (j .0); within = paid .2; low = within-test↔ p b P .0 (h .1) .0; high = paid .1 }
 
   tests-step : a .lower ≤ℤ b .lower → a .upper ≤ℤ b .upper → Tests (b .lower) (a .upper) p q P → stepTest true a b p q P ≡ true
   unfolding stepTest
@@ -83,8 +75,8 @@ module _ (a b : Bounds) (p q P : ℕ) where
       let low = ≤-trans lows (t .low) in
       let high = ≤-trans more (t .high) in
       let within : p ≤ P = omega (arith, t .pays, t .within) in
-      rw (le-leb p q (t .pays), safe↔ p a P .1 (low, high, within), safe↔ p b P .1 (t .low, ≤-trans high highs, within), safe↔ q a P .1 (≤-trans low more, t .high, t .within))
-      (safe↔ q b P .1 (≤-trans (t .low) more, ≤-trans (t .high) highs, t .within))
+      rw (le-leb p q (t .pays), within-test↔ p a P .1 (low, high, within), within-test↔ p b P .1 (t .low, ≤-trans high highs, within), within-test↔ q a P .1 (≤-trans low more, t .high, t .within))
+      (within-test↔ q b P .1 (≤-trans (t .low) more, ≤-trans (t .high) highs, t .within))
 
 -- where no bound falls on the way from a to b, the four comparisons are the test of the step
 module _ (s : Sides) (t : Totals) (cost value p q : ℕ) (a b : Bounds) (low : b .lower ≡ lowerOf (s .price) (t .value) value (s .buyer))
@@ -99,8 +91,9 @@ module _ (s : Sides) (t : Totals) (cost value p q : ℕ) (a b : Bounds) (low : b
 -- ---- a brought plan, step by step
 
 module _ (s : Sides) (us cs vs : List ℕ) (n : ℕ) (places sums : List ℕ) where
-  -- the first i entries are steps, and the cursor and the payment stand after them
+  -- the start is safe, the first i entries are steps, and the cursor and the payment stand after them
   pub record Passed (c : Cursor) (paid i : ℕ) : Type 0 where
+    pub start-safe : Safe (dealAlong s us cs vs) 0 0
     pub within : i ≤ n
     pub at : At us cs vs c
     pub steps : Steps (dealAlong s us cs vs) start (planIn i places sums)
@@ -110,9 +103,21 @@ module _ (s : Sides) (us cs vs : List ℕ) (n : ℕ) (places sums : List ℕ) wh
   none f = record { yes = λ e. absurd (subst T (sym e) tt); no = λ _. f }
 
   module _ (t : Totals) (b : Brought us cs vs t n places sums) where
-    pub passed-start : (c : Cursor) → c ≡ origin → Passed c 0 0
-    passed-start c o =
-        rw o (record { within = omega arith; at = at-origin us cs vs (b .known .fit); steps = rw (plan-none places sums) tt; state-is = rw (plan-none places sums) })
+    -- no plan sets out from an unsafe start
+    pub unsafe-start : (r : Bool) → r ≡ startTest (s .price) (t .cost) 0 (t .value) 0 → not r ≡ true
+        → Judges (dealAlong s us cs vs) (planIn n places sums) false
+    unsafe-start r e h = none (λ p. not-started s us cs vs t (b .known) r e h (plan-start _ (rising s us cs vs) _ p))
+
+    pub passed-start : (r : Bool) → r ≡ startTest (s .price) (t .cost) 0 (t .value) 0 → not r ≡ false → (c : Cursor) → c ≡ origin → Passed c 0 0
+    passed-start r e h c o =
+        rw o
+        (record {
+          start-safe = started s us cs vs t (b .known) r e h;
+          within = omega arith;
+          at = at-origin us cs vs (b .known .fit);
+          steps = rw (plan-none places sums) tt;
+          state-is = rw (plan-none places sums);
+        })
 
     module _ {c : Cursor} {paid i : ℕ} (g : Passed c paid i) where
       -- the test of the end
@@ -169,7 +174,7 @@ module _ (s : Sides) (us cs vs : List ℕ) (n : ℕ) (places sums : List ℕ) wh
             tested : (r ≡ true) ↔ Step (dealAlong s us cs vs) (record { place = c .place; paid = paid }) (record { place = place; paid = sum })
             tested =
                 let d = dealAlong s us cs vs in
-                let q = step↔ d (record { place = c .place; paid = paid }) (record { place = place; paid = sum }) (omega (arith, b .known .units-are)) in
+                let q = step↔ d (rising s us cs vs) (g .start-safe) (record { place = c .place; paid = paid }) (record { place = place; paid = sum }) (omega (arith, b .known .units-are)) in
                 let f : r ≡ stepTest (d .holds (c .place) place) (boundsAt d (c .place)) (boundsAt d place) paid sum (s .price) =
                 e
                 ∙ passes-step s t (c .cost) (to .value) paid sum (cursorBounds s t c) (cursorBounds s t to) refl refl
@@ -187,6 +192,7 @@ module _ (s : Sides) (us cs vs : List ℕ) (n : ℕ) (places sums : List ℕ) wh
                 let hs : i < length (entries 4 sums) = omega (arith, b .sums-hold) in
                 rw (add-one i)
                 (record {
+                  start-safe = g .start-safe;
                   within = h;
                   at = a .at;
                   steps = plan-next places sums i hp hs (Step d) start (g .steps) (rw (g .state-is, entry) (tested .0 (not-false r y)));

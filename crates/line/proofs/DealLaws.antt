@@ -18,11 +18,11 @@ use Rattle.exchange.specs.Deal.{State, Safe}
 use Rattle.exchange.specs.Forms.{ladderTerms}
 use Rattle.exchange.specs.Rule.{reach, rule}
 use Rattle.exchange.specs.Possible.{Possible}
-use Rattle.exchange.specs.Test.{safeTest}
+use Rattle.exchange.specs.Test.{startTest}
 use Rattle.exchange.specs.Work.{Rising, workOf}
 use Rattle.exchange.specs.declared.Sides.{Sides}
 use Rattle.exchange.proofs.Int.{leZ-true}
-use Rattle.exchange.proofs.BoundLaws.{gap↔, low↔}
+use Rattle.exchange.proofs.BoundLaws.{gap↔, low↔, start↔}
 use Rattle.exchange.proofs.Clipped.{clipped-same, possible-same}
 use Rattle.exchange.proofs.Bridge.{lawful, coins-low, reach-floor}
 use Rattle.exchange.proofs.GivenOrder.Farthest.{farthest, farthest-is}
@@ -30,9 +30,9 @@ use Rattle.exchange.proofs.FormLaws.{ladder-rising}
 use Rattle.exchange.proofs.GivenOrder.{plan-exists}
 use Rattle.exchange.proofs.GivenOrder.Greedy.{OnLine, floor-up}
 use Rattle.exchange.proofs.GivenOrder.RuleLaws.{rule-greedy}
-use Rattle.exchange.proofs.TestLaws.{test↔}
+use Rattle.exchange.proofs.TestLaws.{start-test↔}
 use Rattle.line.specs.Segments.{spread, dealAlong}
-use Rattle.line.specs.Code.{sumTo, Known, At, Open, There, Reached, Delivered, Decides, UnitsIn, origin, startBounds, meet}
+use Rattle.line.specs.Code.{sumTo, Known, At, Open, There, Reached, Delivered, Decides, UnitsIn, origin, meet}
 use Rattle.line.specs.declared.Cursor.{Cursor}
 use Rattle.line.specs.declared.Totals.{Totals}
 use Rattle.line.proofs.SegmentLaws.{sum-zero, at-origin, not-so, place-on, cost-on, value-on, value-fits, cost-there, value-there}
@@ -126,27 +126,33 @@ module _ (s : Sides) (us cs vs : List ℕ) where
     pub upper-at : (c : Cursor) → At us cs vs c → upperOf (s .price) (t .cost) (c .cost) (s .supplier) ≡ dealAlong s us cs vs .upper (c .place)
     upper-at c a = rw (k .cost-is, a .cost-is)
 
-    start-test : (b : Bool) → b ≡ safeTest 0 (startBounds s t) (s .price) → (b ≡ true) ↔ Safe (dealAlong s us cs vs) 0 0
+    start-test : (b : Bool) → b ≡ startTest (s .price) (t .cost) 0 (t .value) 0 → (b ≡ true) ↔ Safe (dealAlong s us cs vs) 0 0
     start-test b e =
-        let d = dealAlong s us cs vs in
-        let q = test↔ d 0 0 in
-        let f : safeTest 0 (startBounds s t) (s .price) ≡ safeTest 0 (record { lower = d .lower 0; upper = d .upper 0 }) (s .price) =
+        let q = start-test↔ terms leb in
+        let f : startTest (s .price) (t .cost) 0 (t .value) 0 ≡ startTest (s .price) (terms .cost (terms .last)) (terms .cost 0) (terms .value (terms .last)) (terms .value 0) =
         rw (k .value-is, k .cost-is, sum-zero (spread us cs), sum-zero (spread us vs)) in
         (λ h. q .0 (sym (e ∙ f) ∙ h), λ h. e ∙ f ∙ q .1 h)
 
+    -- the test of the start fails
+    pub not-started : (b : Bool) → b ≡ startTest (s .price) (t .cost) 0 (t .value) 0 → not b ≡ true → Safe (dealAlong s us cs vs) 0 0 → ⊥
+    not-started b e h safe = subst T (sym (start-test b e .1 safe) ∙ not-true b h) tt
+
+    -- it passes
+    pub started : (b : Bool) → b ≡ startTest (s .price) (t .cost) 0 (t .value) 0 → not b ≡ false → Safe (dealAlong s us cs vs) 0 0
+    started b e h = start-test b e .0 (not-false b h)
+
+    -- a safe start has a price that covers the whole cost
+    pub covered : Safe (dealAlong s us cs vs) 0 0 → t .cost ≤ s .price
+    covered safe = omega (arith, start↔ terms leb .0 (safe .unmoved refl) .high, k .cost-is, sum-zero (spread us cs))
+
     -- ---- the scan for a gap
 
-    pub start-unsafe : (b : Bool) → b ≡ safeTest 0 (startBounds s t) (s .price) → not b ≡ true → Decides (dealAlong s us cs vs) false
-    start-unsafe b e h = none (λ p. subst T (sym (start-test b e .1 (p .start-safe)) ∙ not-true b h) tt)
+    pub start-unsafe : (b : Bool) → b ≡ startTest (s .price) (t .cost) 0 (t .value) 0 → not b ≡ true → Decides (dealAlong s us cs vs) false
+    start-unsafe b e h = none (λ p. not-started b e h (p .start-safe))
 
-    pub clear-start : (b : Bool) → b ≡ safeTest 0 (startBounds s t) (s .price) → not b ≡ false → (c : Cursor) → c ≡ origin → Clear c
-    clear-start b e h c o =
-        rw o
-        (record {
-          at = at-origin us cs vs (k .fit);
-          safe = start-test b e .0 (not-false b h);
-          no-gap = λ i (l : i < 0). absurd (omega arith);
-        })
+    pub clear-start : Safe (dealAlong s us cs vs) 0 0 → (c : Cursor) → c ≡ origin → Clear c
+    clear-start safe c o =
+        rw o (record { at = at-origin us cs vs (k .fit); safe = safe; no-gap = λ i (l : i < 0). absurd (omega arith) })
 
     -- a gap as an order of sums
     pub meet↔ : (cost value : ℕ) → (meet s t cost value ≡ true) ↔ (s .price + value + t .cost ≤ s .price + cost + s .supplier + (t .value + s .buyer))

@@ -15,7 +15,7 @@ use Rattle.exchange.specs.Possible.{Possible}
 use Rattle.exchange.specs.Rule.{ruled}
 use Rattle.exchange.specs.Objectives.{count, moves, deliveryOnly, paymentOnly, opening, Opens, smaller, PlanFor}
 use Rattle.exchange.specs.declared.Objective.{Objective}
-use Rattle.exchange.proofs.Bridge.{coins-low}
+use Rattle.exchange.proofs.Bridge.{start-covered}
 use Rattle.exchange.proofs.GivenOrder.Opening.{opening-by, opening-more, opening-length, opening-start}
 use Rattle.exchange.proofs.GivenOrder.RuleLaws.{ruled-length, arrives-first}
 use Rattle.exchange.proofs.GivenOrder.{on-line, to-work, ruled-short}
@@ -134,7 +134,7 @@ module _ (d : Deal) (r : Rising d) (counts : (a b : ℕ) → d .holds a b ≡ le
   start-begins =
       rw (opening-start [])
       (record {
-        step = start-step (on-line d r counts) (coins-low _ 0 .0 (p .start-safe .low));
+        step = start-step (on-line d r counts) (start-covered d r (p .start-safe));
         short = λ n a. omega (arith, ruled-short d r counts (p .start-safe) n a);
       })
 

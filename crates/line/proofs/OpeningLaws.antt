@@ -21,6 +21,7 @@ use Rattle.line.specs.declared.Cursor.{Cursor}
 use Rattle.line.specs.declared.Totals.{Totals}
 use Rattle.line.specs.declared.First.{First}
 use Rattle.line.proofs.SegmentLaws.{at-origin}
+use Rattle.exchange.proofs.Bridge.{safe-within}
 use Rattle.line.proofs.DealLaws.{rising, upper-at}
 use Rattle.line.proofs.FirstLaws.{start-begins, delivery-begins, payment-begins, takes-payment, takes-delivery}
 
@@ -66,7 +67,7 @@ module _ (s : Sides) (us cs vs : List ℕ) where
 
     -- nothing is delivered yet, and nothing need be paid there
     pub origin-reached : (c : Cursor) → c ≡ origin → Reached s us cs vs 0 c
-    origin-reached c o = record { at = at-first c o; low = rw (first-place c o) (q .start-safe .low) }
+    origin-reached c o = record { at = at-first c o; low = rw (first-place c o) (safe-within _ (rising s us cs vs) 0 0 (q .start-safe) .low) }
 
     pub leads-none : (r : First) → r ≡ atStart → Leads s us cs vs start r
     leads-none r e =

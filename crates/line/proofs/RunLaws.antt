@@ -21,7 +21,7 @@ use Rattle.exchange.specs.Possible.{Possible}
 use Rattle.exchange.specs.Rule.{coins, rule, ruled}
 use Rattle.exchange.specs.Work.{workOf}
 use Rattle.exchange.specs.declared.Sides.{Sides}
-use Rattle.exchange.proofs.Bridge.{coins-low}
+use Rattle.exchange.proofs.Bridge.{coins-low, start-covered}
 use Rattle.exchange.proofs.GivenOrder.Greedy.{Stands, greedy, greedy-leads}
 use Rattle.exchange.proofs.GivenOrder.Lead.{run-keeps}
 use Rattle.exchange.proofs.GivenOrder.RuleLaws.{rule-greedy, ruled-run, ruled-length}
@@ -149,7 +149,7 @@ module _ (s : Sides) (us cs vs : List ℕ) where
       along-low =
           let d = dealAlong s us cs vs in
           let o = on-line s us cs vs in
-          let first : Stands (workOf d) f = step-stands o (coins-low _ 0 .0 (p .start-safe .low)) f (begins .step) in
+          let first : Stands (workOf d) f = step-stands o (start-covered d (rising s us cs vs) (p .start-safe)) f (begins .step) in
           let stands : Stands (workOf d) (stateAt d f n) = rw (ruled-run d f n) (run-keeps (greedy-leads o) f first n) in
           let here = rw (g .state-is) at stands in
           record { at = g .at; low = coins-low _ paid .1 (here .covered) }

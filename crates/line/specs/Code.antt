@@ -7,7 +7,7 @@ use lib.IntN.{pos}
 use lib.ListN.{length, getD, take, drop}
 use lib.Signed.{leZ, _≤ℤ_}
 use Rattle.area.specs.Entries.{entries, remainder}
-use Rattle.exchange.specs.Bounds.{unclippedUpperOf, unclippedLowerOf, upperOf, lowerOf}
+use Rattle.exchange.specs.Bounds.{unclippedUpperOf, unclippedLowerOf}
 use Rattle.exchange.specs.Deal.{Deal, State, Plan, start, ends}
 use Rattle.exchange.specs.Forms.{along}
 use Rattle.exchange.specs.Rule.{reach, ruled}
@@ -15,7 +15,6 @@ use Rattle.exchange.specs.Possible.{Possible}
 use Rattle.exchange.specs.Arrival.{Arrives}
 use Rattle.exchange.specs.Work.{WorkStep, workOf}
 use Rattle.exchange.specs.Objectives.{opening, Opens}
-use Rattle.exchange.specs.declared.Bounds.{Bounds}
 use Rattle.exchange.specs.declared.Sides.{Sides}
 use Rattle.line.specs.Segments.{spread, fits, allHave, dealAlong}
 use Rattle.line.specs.declared.Cursor.{Cursor}
@@ -119,10 +118,6 @@ pub record Sets (s : Sides) (us cs vs : List ℕ) (c : Cursor) (paid k : ℕ) : 
 -- the state of a first step
 abbrev pub stateOf : First → State
 stateOf r = record { place = r .cursor .place; paid = r .paid }
-
--- the bounds of the start, by the totals
-abbrev pub startBounds : Sides → Totals → Bounds
-startBounds s t = record { lower = lowerOf (s .price) (t .value) 0 (s .buyer); upper = upperOf (s .price) (t .cost) 0 (s .supplier) }
 
 -- an area of w-byte entries has an entry for each step that there may be
 abbrev pub Room : ℕ → List ℕ → List ℕ → List ℕ → Type 0

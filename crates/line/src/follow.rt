@@ -7,9 +7,11 @@ use super::arrived;
 use super::is_step;
 use super::place::advance;
 use super::place::first;
+use super::start_safe;
 use exchange::Sides;
 
-// Whether the first entries of the areas are steps from the start to the end.
+// Whether the first entries of the areas are steps from a safe start to the end. With a safe start every state of a step is judged by the
+// bounds of its place, (0, 0) too.
 pub(crate) fn follows(
     sides: Sides,
     t: Totals,
@@ -23,6 +25,9 @@ pub(crate) fn follows(
     requires { ⌜ Brought (now units) (now costs) (now values) t count (now places) (now sums) ⌝ }
     ensures { λ r. ⌜ Judges (dealAlong sides (now (units .entry)) (now (costs .entry)) (now (values .entry))) (planIn count (now (places .entry)) (now (sums .entry))) r ⌝ }
 {
+    if !start_safe(sides, t) {
+        return false;
+    }
     let mut c = first();
     let mut paid = 0;
     let mut i = 0;

@@ -11,13 +11,13 @@ ghost use Rattle.area.specs.Entries.{entries};
 ghost use Rattle.exchange.specs.Bounds.{upperOf, lowerOf};
 ghost use Rattle.exchange.specs.Rule.{coins};
 ghost use Rattle.exchange.specs.Objectives.{opening};
-ghost use Rattle.exchange.specs.Test.{safeTest};
+ghost use Rattle.exchange.specs.Test.{startTest};
 ghost use Rattle.line.specs.Segments.{dealAlong};
 ghost use Rattle.line.specs.Promise.{Plans, Success};
 ghost use Rattle.line.specs.BoundsPromise.{BoundsOf};
 ghost use Rattle.line.specs.CheckPromise.{Checks};
 ghost use Rattle.line.specs.CheckCode.{passes};
-ghost use Rattle.line.specs.Code.{Known, Reached, Delivered, Decides, Ready, Begun, UnitsIn, startBounds, meet};
+ghost use Rattle.line.specs.Code.{Known, Reached, Delivered, Decides, Ready, Begun, UnitsIn, meet};
 
 mod follow;
 mod opening;
@@ -58,11 +58,17 @@ pub struct First {
     pub paid: u32,
 }
 
-// What is paid at a place: the smaller of its upper bound and the price.
+// What is paid at a place: the smaller of its upper bound and the price. Where the start is safe no upper bound is below 0, so the sum
+// needs no sign.
 pub fn pay(sides: Sides, t: Totals, cost: u32) -> u32
+    requires { ⌜ t .cost ≤ sides .price ⌝ }
     ensures { λ r. ⌜ r ≡ min (coins (upperOf (sides .price) (t .cost) cost (sides .supplier))) (sides .price) ⌝ }
 {
-    exchange::most_paid(sides.price, t.cost, cost, sides.supplier)
+    let bound = (sides.price - t.cost) as u64 + cost as u64 + sides.supplier as u64;
+    if bound < sides.price as u64 {
+        return bound as u32;
+    }
+    sides.price
 }
 
 // Whether a place's lower bound is at most what is paid.
@@ -107,13 +113,11 @@ pub fn meets(sides: Sides, t: Totals, cost: u32, value: u32) -> bool
     lower <= upper
 }
 
-// Whether the start is safe.
+// Whether the start is safe: along an order, place 0 has neither cost nor value.
 pub fn start_safe(sides: Sides, t: Totals) -> bool
-    ensures { λ r. ⌜ r ≡ safeTest 0 (startBounds sides t) (sides .price) ⌝ }
+    ensures { λ r. ⌜ r ≡ startTest (sides .price) (t .cost) 0 (t .value) 0 ⌝ }
 {
-    let lower = exchange::lower(sides.price, t.value, 0, sides.buyer);
-    let upper = exchange::upper(sides.price, t.cost, 0, sides.supplier);
-    exchange::safe(0, exchange::Bounds { lower, upper }, sides.price)
+    exchange::start_safe(sides.price, t.cost, 0, t.value, 0)
 }
 
 // Whether a state is the end of the deal.

@@ -1,5 +1,6 @@
 // First steps: none, one that only delivers, one that only pays, and the one to take.
 ghost use mathlib.Core.Path.{_≡_};
+ghost use Prim.Native.Nat.{_≤_};
 ghost use Rattle.exchange.specs.Possible.{Possible};
 ghost use Rattle.exchange.specs.Objectives.{deliveryOnly};
 ghost use Rattle.line.specs.Segments.{dealAlong};
@@ -34,6 +35,7 @@ fn delivery_only(sides: Sides, t: Totals, units: &[u16], costs: &[u32], values: 
 
 // A payment only: as much as the rule pays.
 fn payment_only(sides: Sides, t: Totals) -> First
+    requires { ⌜ t .cost ≤ sides .price ⌝ }
     ensures { λ r. ⌜ r ≡ afterPayment sides t ⌝ }
 {
     let cursor = first();

@@ -13,6 +13,7 @@ pub mod LadderFound
 pub mod LadderPlan
 pub mod PricesPlan
 pub mod TablePlan
+pub mod FormRising
 -- from a contract to its record
 pub mod Records
 -- our plan beside one that is brought

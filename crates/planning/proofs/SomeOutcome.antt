@@ -25,6 +25,7 @@ use Rattle.exchange.specs.Search.{count, mostSteps, planned}
 use Rattle.exchange.specs.Work.{Rising, workOf}
 use Rattle.exchange.specs.declared.Objective.{Objective}
 use Rattle.exchange.specs.declared.Sides.{Sides}
+use Rattle.exchange.proofs.Bridge.{within-price}
 use Rattle.exchange.proofs.Choice.{chosen, unsafe-plans}
 use Rattle.exchange.proofs.Choice.ChosenLaws.{chosen-or-none}
 use Rattle.exchange.proofs.Choice.Named.{order-length}
@@ -32,7 +33,7 @@ use Rattle.exchange.proofs.FormLaws.{ladder-rising, order-rising}
 use Rattle.exchange.proofs.GivenOrder.{plan-exists}
 use Rattle.exchange.proofs.Objectives.{plan-for-exists, plan-for-least}
 use Rattle.exchange.proofs.TablePlan.Count.{planned-length}
-use Rattle.exchange.proofs.TestLaws.{test↔, startSafe, possible, possible↔}
+use Rattle.exchange.proofs.TestLaws.{startSafe, startSafe↔, possible, possible↔}
 use Rattle.line.specs.Promise as line
 use Rattle.choice.specs.Promise.{numbered}
 use Rattle.planning.specs.Areas.{Areas, areas, roomFor, workCleared}
@@ -68,7 +69,7 @@ module _ (d : Deal) (last-fits : d .last < 256 ^ 2) (price-fits : d .price < 256
 
   sums-fit : (s : State) (xs : List State) → Steps d s xs → Below (256 ^ 4) (map (λ t. t .paid) xs)
   sums-fit s [] h i = omega arith
-  sums-fit s (t ∷ ts) h zero = omega (arith, h .0 .safe-after .within)
+  sums-fit s (t ∷ ts) h zero = omega (arith, within-price _ _ (h .0 .safe-after))
   sums-fit s (t ∷ ts) h (suc i) = sums-fit t ts (h .1) i
 
   -- a plan can be stored where there is room
@@ -233,6 +234,6 @@ module _ (a : Areas) (b : ByteAreas a) where
             none-kept Objective.Steps _ (table-none s us cs vs v (λ xs p. never (plan-counted s us cs vs v (s .price + 1) xs p)))
 
         go : (x : Bool) → startSafe d ≡ x → (y : Bool) → leb steps (mostSteps us) ≡ y → Kept Objective.Steps (ok (contractWith Table s us cs vs)) a
-        go true e true q = found-kept (test↔ d 0 0 .0 e) (leb-true _ _ q)
+        go true e true q = found-kept (startSafe↔ d .0 e) (leb-true _ _ q)
         go true e false q = none-counted (λ (safe, few). true≢false (sym (le-leb _ _ few) ∙ q))
-        go false e y q = none-counted (λ (safe, few). true≢false (sym (test↔ d 0 0 .1 safe) ∙ e))
+        go false e y q = none-counted (λ (safe, few). true≢false (sym (startSafe↔ d .1 safe) ∙ e))

@@ -15,7 +15,6 @@ use Rattle.contract.specs.Contract.{limit}
 use Rattle.exchange.specs.Deal.{State, Plan, start}
 use Rattle.exchange.specs.Work.{Work, Lawful}
 use Rattle.exchange.specs.Forms.{table}
-use Rattle.exchange.specs.Test.{safeTest}
 use Rattle.exchange.specs.Search.{mostSteps, count, forwards}
 use Rattle.exchange.proofs.Bridge.{lawful}
 use Rattle.exchange.proofs.FormLaws.{table-rising}
@@ -25,7 +24,7 @@ use Rattle.exchange.proofs.TablePlan.Count.{count-plan}
 use Rattle.exchange.proofs.TablePlan.Forward.{forwards-length}
 use Rattle.search.specs.declared.Terms.{Terms}
 use Rattle.search.specs.Promise.{Rise, Success}
-use Rattle.search.specs.Layers.{mark, working, rowsWork, Caps, Floors, Searchable, Counted, Walked, Room, CanWalk, startBounds, Fitted, Found}
+use Rattle.search.specs.Layers.{mark, working, rowsWork, Caps, Floors, Searchable, Counted, Walked, Room, CanWalk, startsBy, Fitted, Found}
 use Rattle.search.proofs.AlikeLaws.{Alike, count-alike, forwards-alike}
 use Rattle.search.proofs.SuitLaws.{Suits, some-units, start↔, units-few}
 
@@ -130,7 +129,7 @@ module _ {t : Terms} {us costs values places sums : List ℕ} {most : ℕ} (f : 
   -- ---- the answers
 
   -- a start that is not safe
-  pub no-start : safeTest 0 (startBounds t costs values) (t .sides .price) ≡ false → (ys : List State) → Plan (table (t .sides) us costs values) ys → ⊥
+  pub no-start : startsBy t costs values ≡ false → (ys : List State) → Plan (table (t .sides) us costs values) ys → ⊥
   no-start unsafe ys p =
       let q = table-counted (t .sides) us costs values (f .costs-all) (f .values-all) (f .rise .costs-rise) (f .rise .values-rise) mark ys p in
       false≢true (sym unsafe ∙ start↔ t us costs values (f .good) .1 (q .0))
@@ -146,7 +145,7 @@ module _ {t : Terms} {us costs values places sums : List ℕ} {most : ℕ} (f : 
         omega (arith, q .1, all, counts)
 
     -- the plan that the areas hold
-    pub planned-success : safeTest 0 (startBounds t costs values) (t .sides .price) ≡ true → k ≤ most → {places₂ sums₂ : List ℕ}
+    pub planned-success : startsBy t costs values ≡ true → k ≤ most → {places₂ sums₂ : List ℕ}
         → Cleared 2 places′ places₂ k → Cleared 4 sums′ sums₂ k → Success (table (t .sides) us costs values) k places sums places₂ sums₂
     planned-success safe l {places₂} {sums₂} cp cz =
         let wp = found .written l .places-are in

@@ -15,12 +15,11 @@ use Rattle.area.specs.Entries.{entries}
 use Rattle.grid.specs.Rows.{rowsOf}
 use Rattle.grid.proofs.RowLaws.{rows-pos}
 use Rattle.exchange.specs.Deal.{Safe}
-use Rattle.exchange.specs.Forms.{table}
+use Rattle.exchange.specs.Forms.{tableTerms, holdsRow, table}
 use Rattle.exchange.specs.Search.{mostSteps}
-use Rattle.exchange.specs.Test.{safeTest}
-use Rattle.exchange.proofs.TestLaws.{test↔}
+use Rattle.exchange.proofs.TestLaws.{start-test↔}
 use Rattle.search.specs.Promise.{suits}
-use Rattle.search.specs.Layers.{Table, startBounds}
+use Rattle.search.specs.Layers.{Table, startsBy}
 use Rattle.search.specs.declared.Terms.{Terms}
 
 -- ---- units
@@ -133,5 +132,5 @@ rows-few us r e h = e ∙ rw (le-leb _ _ h)
 -- ---- the start
 
 pub start↔ : (t : Terms) (us costs values : List ℕ) → Table t us
-    → (safeTest 0 (startBounds t costs values) (t .sides .price) ≡ true) ↔ Safe (table (t .sides) us costs values) 0 0
-start↔ t us costs values good = rw (good .rows-are) (test↔ (table (t .sides) us costs values) 0 0)
+    → (startsBy t costs values ≡ true) ↔ Safe (table (t .sides) us costs values) 0 0
+start↔ t us costs values good = rw (good .rows-are) (start-test↔ (tableTerms (t .sides) us costs values) (holdsRow us))

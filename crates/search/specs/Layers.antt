@@ -15,8 +15,8 @@ use Rattle.exchange.specs.Deal.{start}
 use Rattle.exchange.specs.Work.{Work, workOf, Lawful}
 use Rattle.exchange.specs.Bounds.{upperOf, lowerOf}
 use Rattle.exchange.specs.Rule.{coins}
-use Rattle.exchange.specs.declared.Bounds.{Bounds}
 use Rattle.exchange.specs.Forms.{table, holdsRow}
+use Rattle.exchange.specs.Test.{startTest}
 use Rattle.exchange.specs.Search.{need, count, firstOf, forwards}
 use Rattle.held.specs.Down.{CapsRise}
 use Rattle.held.specs.Words.{holdsWord}
@@ -46,13 +46,10 @@ capAt price top supplier costs a = min (coins (upperOf price top (getD costs a 0
 abbrev pub floorAt : ℕ → ℕ → ℕ → List ℕ → ℕ → ℕ
 floorAt price top buyer values b = coins (lowerOf price top (getD values b 0) buyer)
 
--- the bounds of row 0
-abbrev pub startBounds : Terms → List ℕ → List ℕ → Bounds
-startBounds t costs values =
-    record {
-      lower = lowerOf (t .sides .price) (getD values (t .rows - 1) 0) (getD values 0 0) (t .sides .buyer);
-      upper = upperOf (t .sides .price) (getD costs (t .rows - 1) 0) (getD costs 0 0) (t .sides .supplier);
-    }
+-- whether the start is safe, by the cells of the first and the last row
+abbrev pub startsBy : Terms → List ℕ → List ℕ → Bool
+startsBy t costs values =
+    startTest (t .sides .price) (getD costs (t .rows - 1) 0) (getD costs 0 0) (getD values (t .rows - 1) 0) (getD values 0 0)
 
 -- the first n entries of an array of 128 are those of f, and the others are 0
 pub record Lists (f : ℕ → ℕ) (array : List ℕ) (n : ℕ) : Type 0 where

@@ -7,9 +7,8 @@ ghost use lib.ListN.{length};
 ghost use Rattle.grid.specs.Rows.{rowsOf};
 ghost use Rattle.contract.specs.Contract.{limit};
 ghost use Rattle.exchange.specs.Search.{mostSteps};
-ghost use Rattle.exchange.specs.Test.{safeTest};
 ghost use Rattle.search.specs.Promise.{Plans, suits, Rise};
-ghost use Rattle.search.specs.Layers.{never, startBounds, working, rowsWork, Searchable, Room, Fitted, Found};
+ghost use Rattle.search.specs.Layers.{never, startsBy, working, rowsWork, Searchable, Room, Fitted, Found};
 
 mod layers;
 mod limits;
@@ -88,15 +87,19 @@ fn most_steps(
     most
 }
 
-// Whether the start, nothing delivered and nothing paid, is safe, by the bounds of row 0.
+// Whether the start is safe, by the cells of the first and the last row.
 fn starts(t: Terms, costs: &[u32], values: &[u32]) -> bool
     requires { ⌜ (0 < t .rows) × (length (now costs) ≡ t .rows) × (length (now values) ≡ t .rows) ⌝ }
-    ensures { λ r. ⌜ r ≡ safeTest 0 (startBounds t (now (costs .entry)) (now (values .entry))) (t .sides .price) ⌝ }
+    ensures { λ r. ⌜ r ≡ startsBy t (now (costs .entry)) (now (values .entry)) ⌝ }
 {
     let last = t.rows - 1;
-    let lower = exchange::lower(t.sides.price, values[last], values[0], t.sides.buyer);
-    let upper = exchange::upper(t.sides.price, costs[last], costs[0], t.sides.supplier);
-    exchange::safe(0, exchange::Bounds { lower, upper }, t.sides.price)
+    exchange::start_safe(
+        t.sides.price,
+        costs[last],
+        costs[0],
+        values[last],
+        values[0],
+    )
 }
 
 // Searches by the units, the caps and the floors of the rows: the fewest steps, and one more than the most where there is no plan. A plan with

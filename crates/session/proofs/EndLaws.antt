@@ -7,7 +7,7 @@ use native.Mathlib.Decide.{ℕ-discrete}
 use native.Mathlib.Nat.{le-refl, mod-lt}
 use native.Mathlib.Omega.{arith}
 use lib.Dec.{T, leb, leb→le}
-use lib.ListN.{length, getD}
+use lib.ListN.{length}
 use Rattle.grid.specs.Rows.{rowsOf}
 use Rattle.grid.proofs.RowLaws.{rows-pos}
 use Rattle.contract.specs.Contract.{Contract}
@@ -15,9 +15,9 @@ use Rattle.contract.specs.declared.Form.{Form}
 use Rattle.contract.specs.declared.Form.the-variants.{Ladder, UnitPrices, Table}
 use Rattle.exchange.specs.Bounds.{Terms}
 use Rattle.exchange.specs.Deal as deal
-use Rattle.exchange.specs.Forms.{termsOf, ladderTerms, orderTerms, holdsRow}
+use Rattle.exchange.specs.Forms.{ladderTerms, orderTerms, tableTerms, holdsRow}
 use Rattle.exchange.specs.declared.Sides.{Sides}
-use Rattle.exchange.proofs.BoundLaws.{safe↔}
+use Rattle.exchange.proofs.BoundLaws.{end-safe}
 use Rattle.exchange.proofs.TablePlan.RowUnits.{unitsOf, units-rise, units-last}
 use Rattle.planning.specs.Deals.{sidesOf, dealFor, dealOf}
 use Rattle.session.specs.Reached.{Ending}
@@ -27,8 +27,7 @@ abbrev Top : ℕ → (ℕ → ℕ → Bool) → Type 0
 Top last holds = (b : ℕ) → b ≤ last → T (holds last b) → b ≡ last
 
 terms-ending : (t : Terms) (holds : ℕ → ℕ → Bool) → Top (t .last) holds → Ending (deal.dealOf t holds)
-terms-ending t holds top =
-    record { top = top; end-safe = safe↔ t holds (t .last) (t .price) .1 (record { low = omega arith; high = omega arith; within = le-refl _ }) }
+terms-ending t holds top = record { top = top; end-safe = end-safe t holds }
 
 -- along an order a later place holds the units of the earlier ones alone
 line-top : (n : ℕ) → Top n leb
@@ -55,7 +54,7 @@ form-ending : (p : Sides) (f : Form) (units costs values σ : List ℕ) → Endi
 form-ending p Ladder units costs values σ = terms-ending (ladderTerms p costs values) leb (line-top (length costs))
 form-ending p UnitPrices units costs values σ = terms-ending (orderTerms p costs values σ) leb (line-top (length σ))
 form-ending p Table units costs values σ =
-    terms-ending (termsOf p (rowsOf units - 1) (λ r. getD costs r 0) (λ r. getD values r 0)) (holdsRow units) (table-top units)
+    terms-ending (tableTerms p units costs values) (holdsRow units) (table-top units)
 
 -- every deal of a contract ends so
 pub contract-ending : (k : Contract) (σ : List ℕ) → Ending (dealOf k σ)

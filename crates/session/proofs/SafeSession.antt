@@ -14,6 +14,7 @@ use Rattle.contract.specs.Res.{ok}
 use Rattle.contract.specs.Contract.{Contract}
 use Rattle.exchange.specs.Deal.{Deal, State, Safe, Step, Chain, Plan, start, end, ends, after}
 use Rattle.exchange.proofs.BoundLaws.{safe-neither}
+use Rattle.exchange.proofs.Bridge.{within-price}
 use Rattle.exchange.proofs.GivenOrder.Run.{state-eq}
 use Rattle.planning.specs.Check.{SafeAlong}
 use Rattle.planning.specs.Order.{orderIn, dealBy}
@@ -88,7 +89,7 @@ module _ (d : Deal) (f : Ending d) (xs : List State) (p : Plan d xs) (s : Sessio
   stands-neither : NeitherGains d (stands xs s .place) (stands xs s .paid)
   stands-neither t holds e =
       let safe = subst (λ (c : Deal). Safe c (stands xs s .place) (stands xs s .paid)) e stands-safe in
-      safe-neither t holds (stands xs s .place) (stands xs s .paid) (safe .within) .0 safe
+      safe-neither t holds (stands xs s .place) (stands xs s .paid) (within-price _ _ safe) .0 safe
 
   module _ (g : Sound xs s) where
     -- with a move outstanding the firms are not at the end
@@ -105,7 +106,7 @@ module _ (d : Deal) (f : Ending d) (xs : List State) (p : Plan d xs) (s : Sessio
             awaited-differs xs s Delivery a (f .top _ (step .in-deal) held ∙ sym here)
         go (inr a) =
             let here : after start xs (s .passed) .paid ≡ d .price = sym (awaited-stands xs s Payment a) ∙ ap (λ (t : State). t .paid) e in
-            let high : after start xs (suc (s .passed)) .paid ≤ d .price = step .safe-after .within in
+            let high : after start xs (suc (s .passed)) .paid ≤ d .price = within-price _ _ (step .safe-after) in
             let low : after start xs (s .passed) .paid ≤ after start xs (suc (s .passed)) .paid = step .pays in
             awaited-differs xs s Payment a (omega arith)
 

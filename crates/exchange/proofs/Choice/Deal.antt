@@ -3,7 +3,7 @@
 use mathlib.Core.Path.{_≡_, _∙_}
 use mathlib.Core.Logic.{_↔_, Iff·trans}
 use mathlib.Core.List.{List}
-use Prim.Native.Nat.{ℕ, _+_, _≤_}
+use Prim.Native.Nat.{ℕ, _≤_}
 use native.Mathlib.Omega.{arith}
 use lib.Dec.{leb}
 use lib.ListN.{length}
@@ -13,7 +13,9 @@ use Rattle.exchange.specs.Possible.{Possible}
 use Rattle.exchange.specs.Chosen.{at}
 use Rattle.exchange.specs.Choice.{sumOver, allItems}
 use Rattle.exchange.specs.declared.Sides.{Sides}
-use Rattle.exchange.proofs.BoundLaws.{gap↔, safe↔}
+use Rattle.exchange.proofs.BoundLaws as bound
+use Rattle.exchange.proofs.BoundLaws.{gap↔}
+use Rattle.exchange.proofs.Bridge.{safe-start↔}
 use Rattle.exchange.proofs.Clipped.{clipped-same, possible-same}
 use Rattle.exchange.proofs.FormLaws.{order-rising}
 use Rattle.exchange.proofs.Choice.Sums.{along-all, along-none, sum-order}
@@ -28,17 +30,17 @@ module _ (p : Sides) (units costs values : List ℕ) where
   -- whether the start is safe, without an order
   pub start↔ : (σ : List ℕ) → Order units σ
       → Safe (inOrder p costs values σ) 0 0
-      ↔ ((p .price ≤ sumOver units (at values) (allItems (length units)) + p .buyer)
-      × (sumOver units (at costs) (allItems (length units)) ≤ p .price + p .supplier))
+      ↔ ((p .price ≤ sumOver units (at values) (allItems (length units))) × (sumOver units (at costs) (allItems (length units)) ≤ p .price))
   start↔ σ o =
       let v = last-is units (at values) σ o in
       let c = last-is units (at costs) σ o in
       let v0 = along-none (at values) σ in
       let c0 = along-none (at costs) σ in
-      Iff·trans (safe↔ (orderTerms p costs values σ) leb 0 0) (
+      Iff·trans safe-start↔
+      (Iff·trans (bound.start↔ (orderTerms p costs values σ) leb) (
         λ s. (omega (arith, s .low), omega (arith, s .high)),
         λ s. record { low = omega (arith, s .0); high = omega (arith, s .1); within = omega arith },
-      )
+      ))
 
   -- the start is as safe along one order as along another
   pub same-start : (σ τ : List ℕ) → Order units σ → Order units τ → Safe (inOrder p costs values σ) 0 0

@@ -2,7 +2,7 @@
 use Prim.Native.Nat.{_-_}
 use native.Mathlib.Omega.{arith}
 use Rattle.line.proofs.SegmentLaws.{opened, in-units, few-before}
-use Rattle.line.proofs.DealLaws.{Clear, start-unsafe, clear-start, one-cost, one-value, gap-none, clear-next, clear-all}
+use Rattle.line.proofs.DealLaws.{Clear, started, start-unsafe, clear-start, one-cost, one-value, gap-none, clear-next, clear-all}
 use Rattle.line.proofs.possible.Statement.{statement}
 use Rattle.line.proofs.possible.Tie as tie
 
@@ -22,7 +22,7 @@ first-requires : tie.Need-first-requires Inv-loop μ-loop
 first-requires c κs = tt
 
 loop-holds : tie.Need-loop-holds Inv-loop μ-loop
-loop-holds c = clear-start (c .before .before .before .before .before .before .args .sides) (c .before .before .before .before .before .before .args .units .now) (c .before .before .before .before .before .before .args .costs .now) (c .before .before .before .before .before .before .args .values .now) (c .before .before .before .before .before .before .args .t) (c .before .before .before .before .before .before .pre) _ (c .before .before .start-safe .ensures) (c .before .if1 .left) _ (c .first .ensures)
+loop-holds c = clear-start (c .before .before .before .before .before .before .args .sides) (c .before .before .before .before .before .before .args .units .now) (c .before .before .before .before .before .before .args .costs .now) (c .before .before .before .before .before .before .args .values .now) (c .before .before .before .before .before .before .args .t) (c .before .before .before .before .before .before .pre) (started _ _ _ _ _ (c .before .before .before .before .before .before .pre) _ (c .before .before .start-safe .ensures) (c .before .if1 .left)) _ (c .first .ensures)
 
 left-requires : tie.Need-left-requires Inv-loop μ-loop
 left-requires c κs =

@@ -1,61 +1,45 @@
+-- `search::starts` meets its contract, by that of the test on numbers. Assumes nothing.
 use borrow.Author.Needs.{needs}
-use mathlib.Core.Path.{_≡_}
-use mir.Syntax.{w64}
-use mir.Val.{toZ, ofZ}
-use mir.Facts.{toZ-ofZ}
 use Rattle.search.proofs.starts.Statement.{statement}
 use Rattle.search.proofs.starts.Tie as tie
 
 sub-last : tie.Need-sub-last
 sub-last c = search needs
 
-mul-lower : tie.Need-mul-lower
-mul-lower c = search needs
+mul-start-safe : tie.Need-mul-start-safe
+mul-start-safe c = search needs
 
-shared-slice-read-lower : tie.Need-shared-slice-read-lower
-shared-slice-read-lower c = search needs
+shared-slice-read-start-safe : tie.Need-shared-slice-read-start-safe
+shared-slice-read-start-safe c = search needs
 
-shared-slice-read-lower-2 : tie.Need-shared-slice-read-lower-2
-shared-slice-read-lower-2 c = search needs
+shared-slice-read-start-safe-2 : tie.Need-shared-slice-read-start-safe-2
+shared-slice-read-start-safe-2 c = search needs
 
-lower-requires : tie.Need-lower-requires
-lower-requires c κs = search needs
+mul-start-safe-2 : tie.Need-mul-start-safe-2
+mul-start-safe-2 c = search needs
 
-mul-upper : tie.Need-mul-upper
-mul-upper c = search needs
+shared-slice-read-start-safe-3 : tie.Need-shared-slice-read-start-safe-3
+shared-slice-read-start-safe-3 c = search needs
 
-shared-slice-read-upper : tie.Need-shared-slice-read-upper
-shared-slice-read-upper c = search needs
+shared-slice-read-start-safe-4 : tie.Need-shared-slice-read-start-safe-4
+shared-slice-read-start-safe-4 c = search needs
 
-shared-slice-read-upper-2 : tie.Need-shared-slice-read-upper-2
-shared-slice-read-upper-2 c = search needs
-
-upper-requires : tie.Need-upper-requires
-upper-requires c κs = search needs
-
-safe-requires : tie.Need-safe-requires
-safe-requires c κs = search needs
+start-safe-requires : tie.Need-start-safe-requires
+start-safe-requires c κs = tt
 
 returns : tie.Need-returns
-returns c =
-    let lo = c .before .before .before .before .lower .result in
-    let hi = c .before .upper .result in
-    let k : toZ w64 (ofZ w64 lo) ≡ lo = toZ-ofZ (search needs) in
-    let m : toZ w64 (ofZ w64 hi) ≡ hi = toZ-ofZ (search needs) in
-    rw (← c .before .before .before .before .lower .ensures, ← c .before .upper .ensures) (rw (k, m) at (c .safe .ensures))
+returns c = c .start-safe .ensures
 
 pub starts-spec : {M : Type 1} → statement M
 starts-spec =
     tie.close
     (tie.spec
     sub-last
-    mul-lower
-    shared-slice-read-lower
-    shared-slice-read-lower-2
-    lower-requires
-    mul-upper
-    shared-slice-read-upper
-    shared-slice-read-upper-2
-    upper-requires
-    safe-requires
+    mul-start-safe
+    shared-slice-read-start-safe
+    shared-slice-read-start-safe-2
+    mul-start-safe-2
+    shared-slice-read-start-safe-3
+    shared-slice-read-start-safe-4
+    start-safe-requires
     returns)

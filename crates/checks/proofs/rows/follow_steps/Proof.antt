@@ -18,7 +18,7 @@ sub-last : tie.Need-sub-last Inv-loop μ-loop
 sub-last c = some-rows _ _ _ _ _ _ _ (c .before .before .before .before .before .pre .0)
 
 loop-holds : tie.Need-loop-holds Inv-loop μ-loop
-loop-holds c = passed-start _ _ _ _ _ _ _ (c .before .before .before .before .before .pre .0)
+loop-holds c = passed-start _ _ _ _ _ _ _ (c .before .before .before .before .before .pre .0) (c .before .before .before .before .before .pre .2)
 
 known-u16-requires : tie.Need-known-u16-requires Inv-loop μ-loop
 known-u16-requires c κs = omega (arith, held-entries _ _ _ (c .before .before .before .before .before .before .before .pre .0 .held) .0, c .loop-test .taken)

@@ -1,12 +1,15 @@
 -- `ladder::opening::fewer` meets its contract. Assumes nothing.
 use native.Mathlib.Omega.{arith}
+use Rattle.ladder.proofs.PlanLaws.{covered}
 use Rattle.ladder.proofs.OpeningLaws.{leads-own, leads-payment, fewer-paying, fewer-giving}
 use borrow.Author.Needs.{needs}
 use Rattle.ladder.proofs.opening.fewer.Statement.{statement}
 use Rattle.ladder.proofs.opening.fewer.Tie as tie
 
 payment-only-requires : tie.Need-payment-only-requires
-payment-only-requires c κs = search needs
+payment-only-requires c κs =
+    let k = c .before in
+    covered (k .args .l) (k .args .s .now) (k .pre .0) (omega arith) (omega arith) (k .pre .1)
 
 delivery-only-requires : tie.Need-delivery-only-requires
 delivery-only-requires c κs = search needs

@@ -1,6 +1,7 @@
 -- `ladder::opening::first_for` meets its contract. Assumes nothing.
 use native.Mathlib.Omega.{arith}
 use Rattle.exchange.specs.declared.Objective.{Objective}
+use Rattle.ladder.proofs.PlanLaws.{covered}
 use Rattle.ladder.proofs.OpeningLaws.{leads-none, leads-payment, chosen, chosen-for}
 use borrow.Author.Needs.{needs}
 use Rattle.ladder.proofs.opening.first_for.Statement.{statement}
@@ -22,7 +23,9 @@ enum-told-3 : tie.Need-enum-told-3
 enum-told-3 c = search needs
 
 payment-only-requires : tie.Need-payment-only-requires
-payment-only-requires c κs = search needs
+payment-only-requires c κs =
+    let k = c .before .before .before in
+    covered (k .args .l) (k .args .s .now) (k .pre .0) (omega arith) (omega arith) (k .pre .1)
 
 enum-told-4 : tie.Need-enum-told-4
 enum-told-4 c = search needs

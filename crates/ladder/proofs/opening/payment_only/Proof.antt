@@ -7,7 +7,7 @@ bottom-requires : tie.Need-bottom-requires
 bottom-requires c κs = tt
 
 pay-requires : tie.Need-pay-requires
-pay-requires c κs = tt
+pay-requires c κs = c .before .pre
 
 returns : tie.Need-returns
 returns c = bottom-paid (c .before .before .args .l) _ _ (c .before .bottom .ensures) (c .pay .ensures)

@@ -5,6 +5,7 @@ use native.Mathlib.Omega.{arith}
 use Rattle.line.proofs.RunLaws.{Going, going-start, going-next, along-far, along-arrives, along-low, not-yet}
 use Rattle.ladder.specs.Rises.{costsIn, valuesIn}
 use Rattle.ladder.specs.Code.{onesIn, cursorOf}
+use Rattle.ladder.proofs.PlanLaws.{covered}
 use Rattle.ladder.proofs.RiseLaws.{known}
 use Rattle.ladder.proofs.run.fill.Statement.{statement}
 use Rattle.ladder.proofs.run.fill.Tie as tie
@@ -32,7 +33,9 @@ returns : tie.Need-returns Inv-loop μ-loop
 returns c = let l = c .before .before .before .before .before .before .before .args .l in let s = c .before .before .before .before .before .before .before .args .s .now in let k = known l s (c .before .before .before .before .before .before .before .pre .0) (omega (arith, c .before .before .before .before .before .before .before .good)) (omega (arith, c .before .before .before .before .before .before .before .good)) in record { arrives = along-arrives (l .sides) (onesIn l) (costsIn l s) (valuesIn l s) (l .all) k (c .before .before .loop .inv .along) _ (c .before .arrived .ensures) (c .if1 .taken); written = c .before .before .loop .inv .written }
 
 pay-requires : tie.Need-pay-requires Inv-loop μ-loop
-pay-requires c κs = tt
+pay-requires c κs =
+    let k = c .before .before .before .before .before .before .before in
+    covered (k .args .l) (k .args .s .now) (k .pre .0) (omega (arith, k .good)) (omega (arith, k .good)) (k .pre .1)
 
 deliver-requires : tie.Need-deliver-requires Inv-loop μ-loop
 deliver-requires c κs = let l = c .before .before .before .before .before .before .before .before .args .l in let s = c .before .before .before .before .before .before .before .before .args .s .now in let k = known l s (c .before .before .before .before .before .before .before .before .pre .0) (omega (arith, c .before .before .before .before .before .before .before .before .good)) (omega (arith, c .before .before .before .before .before .before .before .before .good)) in (c .before .before .before .before .before .before .before .before .pre .0, along-low (l .sides) (onesIn l) (costsIn l s) (valuesIn l s) (l .all) k (c .before .before .before .loop .inv .along) (c .before .before .before .before .before .before .before .before .pre .1) (c .before .before .before .before .before .before .before .before .pre .2 .begins))

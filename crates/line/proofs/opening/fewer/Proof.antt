@@ -1,12 +1,15 @@
 -- `line::opening::fewer` meets its contract. Assumes nothing.
 use native.Mathlib.Omega.{arith}
+use Rattle.line.proofs.DealLaws.{covered}
 use Rattle.line.proofs.OpeningLaws.{leads-own, leads-payment, fewer-paying, fewer-giving}
 use borrow.Author.Needs.{needs}
 use Rattle.line.proofs.opening.fewer.Statement.{statement}
 use Rattle.line.proofs.opening.fewer.Tie as tie
 
 payment-only-requires : tie.Need-payment-only-requires
-payment-only-requires c κs = search needs
+payment-only-requires c κs =
+    let k = c .before .before .before in
+    covered (k .args .sides) _ _ _ _ (k .pre .0) (k .pre .1 .start-safe)
 
 delivery-only-requires : tie.Need-delivery-only-requires
 delivery-only-requires c κs = search needs

@@ -1,5 +1,6 @@
 -- `line::opening::first_for` meets its contract. Assumes nothing.
 use Rattle.exchange.specs.declared.Objective.{Objective}
+use Rattle.line.proofs.DealLaws.{covered}
 use Rattle.line.proofs.OpeningLaws.{leads-none, leads-payment, chosen, chosen-for}
 use borrow.Author.Needs.{needs}
 use Rattle.line.proofs.opening.first_for.Statement.{statement}
@@ -21,7 +22,9 @@ enum-told-3 : tie.Need-enum-told-3
 enum-told-3 c = search needs
 
 payment-only-requires : tie.Need-payment-only-requires
-payment-only-requires c κs = search needs
+payment-only-requires c κs =
+    let k = c .before .before .before .before .before in
+    covered (k .args .sides) _ _ _ _ (k .pre .0) (k .pre .1 .start-safe)
 
 enum-told-4 : tie.Need-enum-told-4
 enum-told-4 c = search needs

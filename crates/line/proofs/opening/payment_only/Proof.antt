@@ -7,7 +7,7 @@ first-requires : tie.Need-first-requires
 first-requires c κs = tt
 
 pay-requires : tie.Need-pay-requires
-pay-requires c κs = tt
+pay-requires c κs = c .before .pre
 
 returns : tie.Need-returns
 returns c = rw (c .pay .ensures, c .before .first .ensures) refl

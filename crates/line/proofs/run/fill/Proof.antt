@@ -4,6 +4,7 @@ use Prim.Native.Nat.{_+_, _*_, _-_}
 use native.Mathlib.Omega.{arith}
 use lib.ListN.{length}
 use Rattle.line.specs.Segments.{spread}
+use Rattle.line.proofs.DealLaws.{covered}
 use Rattle.line.proofs.RunLaws.{Going, going-start, going-next, along-far, along-arrives, along-low, not-yet}
 use Rattle.line.proofs.run.fill.Statement.{statement}
 use Rattle.line.proofs.run.fill.Tie as tie
@@ -31,7 +32,9 @@ returns : tie.Need-returns Inv-loop μ-loop
 returns c = record { arrives = along-arrives (c .before .before .before .before .before .before .before .before .before .args .sides) (c .before .before .before .before .before .before .before .before .before .args .units .now) (c .before .before .before .before .before .before .before .before .before .args .costs .now) (c .before .before .before .before .before .before .before .before .before .args .values .now) (c .before .before .before .before .before .before .before .before .before .args .t) (c .before .before .before .before .before .before .before .before .before .pre .0) (c .before .before .loop .inv .along) _ (c .before .arrived .ensures) (c .if1 .taken); written = c .before .before .loop .inv .written }
 
 pay-requires : tie.Need-pay-requires Inv-loop μ-loop
-pay-requires c κs = tt
+pay-requires c κs =
+    let k = c .before .before .before .before .before .before .before .before .before in
+    covered (k .args .sides) _ _ _ _ (k .pre .0) (k .pre .1 .start-safe)
 
 deliver-requires : tie.Need-deliver-requires Inv-loop μ-loop
 deliver-requires c κs = (c .before .before .before .before .before .before .before .before .before .before .pre .0, along-low (c .before .before .before .before .before .before .before .before .before .before .args .sides) (c .before .before .before .before .before .before .before .before .before .before .args .units .now) (c .before .before .before .before .before .before .before .before .before .before .args .costs .now) (c .before .before .before .before .before .before .before .before .before .before .args .values .now) (c .before .before .before .before .before .before .before .before .before .before .args .t) (c .before .before .before .before .before .before .before .before .before .before .pre .0) (c .before .before .before .loop .inv .along) (c .before .before .before .before .before .before .before .before .before .before .pre .1) (c .before .before .before .before .before .before .before .before .before .before .pre .2 .begins))

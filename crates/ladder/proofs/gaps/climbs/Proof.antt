@@ -1,9 +1,9 @@
--- `ladder::climbs` meets its contract. The invariant: the start is safe and no gap was found so far. Assumes nothing.
+-- `ladder::gaps::climbs` meets its contract. The invariant: the start is safe and no gap was found so far. Assumes nothing.
 use Prim.Native.Nat.{_-_}
 use native.Mathlib.Omega.{arith}
 use Rattle.ladder.proofs.PlanLaws.{Clear, clear-bottom, clear-next, gap-none, clear-all}
-use Rattle.ladder.proofs.climbs.Statement.{statement}
-use Rattle.ladder.proofs.climbs.Tie as tie
+use Rattle.ladder.proofs.gaps.climbs.Statement.{statement}
+use Rattle.ladder.proofs.gaps.climbs.Tie as tie
 
 abbrev Inv-loop : tie.InvT-loop
 Inv-loop l s c₀ c = Clear l s c

@@ -1,16 +1,16 @@
--- `ladder::possible` meets its contract: each return goes by the tests passed before it. Assumes nothing.
-use mathlib.Core.Path.{refl, sym, _∙_}
+-- `ladder::gaps::possible` meets its contract: each return goes by the tests passed before it. Assumes nothing.
+use mathlib.Core.Path.{sym, _∙_}
 use native.Mathlib.Omega.{arith}
 use borrow.Author.Needs.{needs}
 use Rattle.exchange.specs.Deal.{Safe}
 use Rattle.line.specs.Code.{Known}
-use Rattle.line.proofs.DealLaws.{start-unsafe, clear-start}
+use Rattle.line.proofs.DealLaws.{started, start-unsafe}
 use Rattle.ladder.specs.Rises.{costsIn, valuesIn}
 use Rattle.ladder.specs.Code.{onesIn, lineIn}
 use Rattle.ladder.proofs.RiseLaws.{known}
 use Rattle.ladder.proofs.PlanLaws.{no-gaps}
-use Rattle.ladder.proofs.possible.Statement.{statement}
-use Rattle.ladder.proofs.possible.Tie as tie
+use Rattle.ladder.proofs.gaps.possible.Statement.{statement}
+use Rattle.ladder.proofs.gaps.possible.Tie as tie
 
 -- the totals are those of the ladder
 totals : (c : tie.Start) → let l = c .args .l in let s = c .args .s .now in Known (onesIn l) (costsIn l s) (valuesIn l s) (l .all)
@@ -31,7 +31,7 @@ meets-requires c κs = search needs
 safe : (c : tie.Else1) → let a = c .before .before .before .args in Safe (lineIn (a .l) (a .s .now)) 0 0
 safe c =
     let st = c .before .before .before in
-    clear-start (st .args .l .sides) _ _ _ (st .args .l .all) (totals st) _ (c .before .start-safe .ensures) (c .if1 .left) _ refl .safe
+    started (st .args .l .sides) _ _ _ (st .args .l .all) (totals st) _ (c .before .start-safe .ensures) (c .if1 .left)
 
 returns-2 : tie.Need-returns-2
 returns-2 c = no-gaps (c .before .before .before .before .before .args .l) (c .before .before .before .before .before .args .s .now) (c .before .before .before .before .before .pre) (omega arith) (omega arith) (safe (c .before .before)) (sym (c .before .meets .ensures) ∙ c .if2 .taken)
