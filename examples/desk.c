@@ -33,7 +33,8 @@ static void show_bounds(uint32_t place) {
         printf("bounds of place %" PRIu32 ": paid from %" PRId64 " to %" PRId64 "\n", place, signed_at(bounds), signed_at(bounds + 8));
 }
 
-/* After refusal 9. A negative upper bound shows that not even the start is safe. (Unit prices would need order bytes.) */
+/* After refusal 9. A negative upper bound shows that not even the start is safe; it may be unsafe without one, by its price alone.
+ * (Unit prices would need order bytes.) */
 static void show_unsafe_start(void) {
     uint8_t bounds[YOLKGORGE_BOUNDS_SIZE];
     uint32_t refusal = yolkgorge_bounds(record, length, 0, order, sizeof order, bounds, sizeof bounds);

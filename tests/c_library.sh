@@ -43,6 +43,7 @@ refused=$("$work/readme" < examples/records/case-b.bin) || status=$?
 installed "$work/desk" examples/desk.c
 "$work/desk" examples/records/case-a.bin | diff - examples/desk-case-a.txt
 [ "$("$work/desk" examples/records/case-b.bin)" = 'refused 9' ]
+[ "$("$work/desk" examples/records/case-c.bin)" = 'refused 9' ] # its start is not safe, but no bound shows it
 "$work/desk" examples/records/case-d.bin | diff - <(printf 'refused 9\nthe start is not safe: its upper bound is -1\n')
 # the offers of the desk: case G saves a payment by delivering first, and case F is a table
 offers() { "$work/desk" "examples/records/$1.bin" | grep '^fewest'; }

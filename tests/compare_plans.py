@@ -25,21 +25,22 @@ from record_cases import in_turn  # noqa: E402
 
 EXAMPLES = Path(__file__).resolve().parent.parent / "examples/records"
 # the examples and what the paper says of them: a refusal, or the step count
-PLANNED = {"case-a": 5, "case-b": -9, "case-c": 4, "case-d": -9, "case-e": 1, "case-h": -9, "case-k-short": -1, "case-k-long": -7,
+PLANNED = {"case-a": 5, "case-b": -9, "case-c": -9, "case-d": -9, "case-e": 1, "case-h": -9, "case-k-short": -1, "case-k-long": -7,
            "ladder-1001": -5, "total-over": -4, "stock-ladder": 17}
 # the same for fewest payments, deliveries and moves, worked out by hand
-SPARED = {"case-a": (5, 5, 5), "case-b": (-9,) * 3, "case-c": (4, 4, 4), "case-e": (1, 1, 1), "case-f": (-2,) * 3, "case-g": (4, 5, 4),
+SPARED = {"case-a": (5, 5, 5), "case-b": (-9,) * 3, "case-c": (-9,) * 3, "case-e": (1, 1, 1), "case-f": (-2,) * 3, "case-g": (4, 5, 4),
           "case-h": (-9,) * 3, "case-k-short": (-1,) * 3, "case-k-long": (-7,) * 3, "table-3": (-2,) * 3, "total-largest": (2, 2, 2),
           "two-rules": (7, 8, 7)}
 # examples for which an order or rows are chosen: the order and the steps
 CASE_F = (), [(1, 5), (1, 10), (4, 10), (4, 22), (9, 22)]
 CHOSEN = {"case-f": CASE_F, "table-3": CASE_F, "case-g": ((1, 2), [(1, 1), (1, 6), (2, 6), (2, 8)]),
-          "two-orders": ((2, 1), [(1, 4), (2, 4), (2, 6)]),
+          "two-orders": ((2, 1), [(1, 1), (2, 1), (2, 3)]), "first-row": ((), [(1, 2), (1, 4), (3, 4), (3, 6)]),
           "two-rules": ((2, 1, 3, 4), [(1, 1), (2, 4), (4, 6), (5, 10), (7, 11), (7, 13), (8, 13)])}
 # examples that the paper only says are read: the longest ladder, and the greatest totals
 READ = ("ladder-1000", "total-largest")
-# the plan that the published method prints for its table 3
-PRINTED_PLAN = [(2, 5), (3, 14), (4, 18), (4, 22), (9, 22)]
+# brought plans: the one that the published method prints for its table 3, and case C's of old, also with a first step that stays
+CASE_C = [(1, 0), (1, 4), (2, 4), (2, 7)]
+BROUGHT = (("table-3", [(2, 5), (3, 14), (4, 18), (4, 22), (9, 22)], 0), ("case-c", CASE_C, 12), ("case-c", [(0, 0), *CASE_C], 12))
 # the answers that each entry can give; all must come up
 PLAN_ANSWERS = *range(-9, 0), "made"
 ANSWERS = {"plan": PLAN_ANSWERS, "bounds": (*range(9), 12), "check": (*range(9), 12), "open": (*range(9), 12),
@@ -83,11 +84,12 @@ def example_plans(lib):
         answer = lib.bounds(example(name), 0, bytes(8), bytes(BOUNDS_BYTES))[0]
         same(name, "the answer to a question for bounds", answer, 0)
         yield "example"
-    places, sums = (b"".join(state[side].to_bytes(size, "little") for state in PRINTED_PLAN) for side, size in ((0, 2), (1, 4)))
-    brought = example("table-3"), len(PRINTED_PLAN), places, sums, bytes(8)
-    same("table-3", "the check of the printed plan", lib.check(*brought), planning.check(*brought))
-    same("table-3", "the check of the printed plan", lib.check(*brought), 0)
-    yield "example"
+    for name, plan, wanted in BROUGHT:
+        places, sums = (b"".join(state[side].to_bytes(size, "little") for state in plan) for side, size in ((0, 2), (1, 4)))
+        brought = example(name), len(plan), places, sums, bytes(8)
+        same(name, "the check of a brought plan", (lib.check(*brought), planning.check(*brought)), (wanted, wanted), plan)
+        same(name, "the answer to opening it", lib.open(bytes(10), *brought)[0], wanted, plan)
+        yield "example"
     yield stock_prices(lib)
     yield two_orders(lib)
 

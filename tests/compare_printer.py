@@ -18,11 +18,12 @@ sys.path.insert(0, str(ROOT / "tests/reference"))
 import planning  # noqa: E402  (needs the folder above)
 import printer_cases  # noqa: E402
 
-# the paper's plans, and one that its rule for the order gives
-PLANS = {"case-a": [(0, 3), (1, 3), (1, 7), (2, 7), (2, 10)], "case-c": [(1, 0), (1, 4), (2, 4), (2, 7)], "case-e": [(1, 0)],
+# the paper's plans, and others that its rules for the order and for the start give
+PLANS = {"case-a": [(0, 3), (1, 3), (1, 7), (2, 7), (2, 10)], "case-e": [(1, 0)], "first-row": [(1, 2), (1, 4), (3, 4), (3, 6)],
          "case-f": [(1, 5), (1, 10), (4, 10), (4, 22), (9, 22)], "case-g": [(1, 1), (1, 6), (2, 6), (2, 8)],
          "two-rules": [(1, 1), (2, 4), (4, 6), (5, 10), (7, 11), (7, 13), (8, 13)]}
-REFUSED = {"case-b": 9, "case-d": 9, "case-h": 9, "case-k-short": 1, "case-k-long": 7, "ladder-1001": 5, "total-over": 4}
+REFUSED = {"case-b": 9, "case-c": 9, "case-d": 9, "case-h": 9, "case-k-short": 1, "case-k-long": 7, "ladder-1001": 5,
+           "total-over": 4}
 COUNTS = {"stock-ladder": 17, "stock-prices": 17}
 
 # what must come up: the refusals that a record alone can have, and the longest plans of each form

@@ -62,6 +62,72 @@ CLIPPED = (
     ("a payment above the price", UPPER, "upper"),
 )
 
+# planning.py: the start, where nothing has moved and leaving costs nothing; its neighbours, where it does
+
+FAIR = "self.costs[-1] - self.costs[0] <= self.price <= self.values[-1] - self.values[0]\n"
+JUDGED = "        if (place, paid) == START:\n            return self.fair_start()\n"
+ALONG, SEARCHED = "deal.safe(*START):\n        return None\n    return steps", "[START] if deal.safe(*START) else []"
+BY_BOUNDS = "deal.lower[0] <= 0 <= deal.upper[0]"
+CHECKED = "    return 0 if deal_of(contract, items).is_plan(states) else UNSAFE\n"
+OPENED = "    number = check(record, count, places, sums, order)\n"
+RULED = "    return bisect_right(deal.lower, paid) - 1, deal.upper[place]\n"
+NO_COST_LOWER, NO_COST_UPPER = "deal.price - deal.values[-1] + deal.values[0]", "deal.price - deal.costs[-1] + deal.costs[0]"
+
+
+def by_old_start(lines, deal):
+    """The lines while the start is judged by its bounds."""
+    return f"    fair, {deal}.fair_start = {deal}.fair_start, lambda deal: {BY_BOUNDS}\n{lines}    {deal}.fair_start = fair\n"
+
+
+def brought_start(rule, where=True):
+    """A check that has another rule for the start, if its states are such."""
+    return CHECKED, f'''\
+    class Other(Deal):
+        def fair_start(deal):
+            return {rule}
+
+    deal = Other if {where} else Deal
+    return 0 if deal(**vars(deal_of(contract, items))).is_plan(states) else UNSAFE
+'''
+
+
+WITHDRAWAL = (
+    ("the start's lower end not included", FAIR, FAIR.replace("<= self.price", "< self.price")),
+    ("the start's upper end not included", FAIR, FAIR.replace("price <=", "price <")),
+    ("the start judged by its bounds", *dropped(JUDGED)),
+    ("the supplier's leaving cost at the start", FAIR, "0 <= self.upper[0] and self.price <= self.values[-1] - self.values[0]\n"),
+    ("the buyer's leaving cost at the start", FAIR, "self.costs[-1] - self.costs[0] <= self.price and self.lower[0] <= 0\n"),
+    ("row 0's cost left out at the start", FAIR, FAIR.replace(" - self.costs[0]", "")),
+    ("row 0's value left out at the start", FAIR, FAIR.replace(" - self.values[0]", "")),
+    ("no leaving cost while nothing is paid", JUDGED, JUDGED.replace("(place, paid) == START", "paid == 0")
+     .replace("self.fair_start()", FAIR[:-1].replace("[0]", "[place]"))),
+    ("no leaving cost while nothing is delivered", JUDGED, JUDGED.replace("(place, paid) == START", "place == 0")
+     .replace("self.fair_start()", FAIR[:-1].replace("self.price", "self.price - paid"))),
+    ("the start's rule for all places while nothing is paid", JUDGED, JUDGED.replace("(place, paid) == START", "paid == 0")),
+    ("the start's rule for all sums while nothing is delivered", JUDGED, JUDGED.replace("(place, paid) == START", "place == 0")),
+    ("plans along an order from a start by its bounds", ALONG, ALONG.replace("deal.safe(*START)", BY_BOUNDS)),
+    ("plans of a table from a start by its bounds", SEARCHED, SEARCHED.replace("deal.safe(*START)", BY_BOUNDS)),
+    ("the start of a brought plan without its lower end", *brought_start("deal.price <= deal.values[-1] - deal.values[0]")),
+    ("the start of a brought plan without its upper end", *brought_start("deal.costs[-1] - deal.costs[0] <= deal.price")),
+    ("the start of a brought plan by its bounds", *brought_start(BY_BOUNDS)),
+    ("the same where the first step stays", *brought_start(BY_BOUNDS, "states[:1] == [START]")),
+    ("the same where the first step moves", *brought_start(BY_BOUNDS, "states[:1] != [START]")),
+    ("the start of a brought plan not judged", *brought_start(True)),
+    ("the start of a brought plan not judged if it is outside its bounds",
+     *brought_start(f"not {BY_BOUNDS} or Deal.fair_start(deal)")),
+    ("opening by the start's bounds", OPENED, by_old_start(OPENED, "Deal")),
+    ("a first delivery without leaving cost", RULED, RULED.replace(
+        "deal.lower,", "deal.lower if paid else [deal.price - deal.values[-1] + value for value in deal.values],")),
+    ("a first payment without leaving cost", RULED, RULED.replace(
+        "deal.upper[place]", f"deal.upper[place] if place else {NO_COST_UPPER}")),
+    ("place 0's lower bound without leaving cost", ANSWERED, ANSWERED.replace(
+        "deal.lower[place]", f"deal.lower[place] if place else max(0, {NO_COST_LOWER})")),
+    ("place 0's upper bound without leaving cost", ANSWERED, ANSWERED.replace(
+        "deal.upper[place]", f"deal.upper[place] if place else {NO_COST_UPPER}")),
+    ("a negative upper bound for every start that is not safe", ANSWERED, ANSWERED.replace(
+        "deal.upper[place]", "deal.upper[place] if place or deal.safe(*START) else -1")),
+)
+
 # planning.py: the order for unit prices, and the rows of a table
 
 FORWARDS = "    forwards = [Pick(item, units, cost - value, value) for item, units, cost, value in items if cost >= value]\n"
@@ -121,6 +187,7 @@ SPARING_FOUND = ('    found = plan_of(goal, contract)\n'
                  '    if found is None:\n        return "refused", IMPOSSIBLE\n')
 SPARING_PARSED = "    contract = records.parse(record)\n"
 SPARING_ITEMS = "    _, items = found\n"
+SPARING_PLANNED = "    found = planning.plan_of(contract)\n"
 SPARING_OWN_ORDER = SPARING_ITEMS + '''\
     if planning.steps_along(deal_of(contract, sorted(items))):
         items = tuple(sorted(items))
@@ -157,6 +224,7 @@ SPARING = (
     ("the plan area zero after 9", SPARING_AREAS,
      '    if reply == ("refused", IMPOSSIBLE):\n        places = bytes(len(places))\n' + SPARING_AREAS),
     ("a plan along the items' own order where it has one", SPARING_ITEMS, SPARING_OWN_ORDER),
+    ("plans from a start by its bounds", SPARING_PLANNED, by_old_start(SPARING_PLANNED, "planning.Deal")),
     ("items in their own order", '"steps", steps, order_bytes(items)', '"steps", steps, order_bytes(sorted(items))'),
     ("8 for every table", SPARING_TABLE, SPARING_TABLE.replace("MAP", "SHORT")),
     ("8 ahead of 2 for a table", SPARING_TABLE, SPARING_TABLE.replace("MAP", "MAP if order_len >= 8 else SHORT")),
@@ -268,6 +336,6 @@ WRITING = (
 )
 
 # the C library has ways of its own to a record, so the reader's rules have to be tried there too
-GROUPS = ((PLANNING, "planning", ("plans",)), (CLIPPED, "planning", ("plans",)), (CHOICE, "planning", ("plans",)),
-          (SPARING, "sparing", ("plans",)), (READING, "record", ("records", "plans")), (LENGTHS, "record", ("records",)),
-          (WRITING, "record", ("records",)))
+GROUPS = ((PLANNING, "planning", ("plans",)), (CLIPPED, "planning", ("plans",)), (WITHDRAWAL, "planning", ("plans",)),
+          (CHOICE, "planning", ("plans",)), (SPARING, "sparing", ("plans",)), (READING, "record", ("records", "plans")),
+          (LENGTHS, "record", ("records",)), (WRITING, "record", ("records",)))

@@ -21,6 +21,16 @@ impl Brought {
     }
 }
 
+impl Brought {
+    /// The steps that count, if the areas hold so many.
+    pub fn steps(&self) -> Option<Vec<(usize, i64)>> {
+        let places = self.places.as_chunks::<2>().0.get(..self.count)?;
+        let sums = self.sums.as_chunks::<4>().0.get(..self.count)?;
+        let entry = |(place, sum): (&[u8; 2], &[u8; 4])| (u16::from_le_bytes(*place) as usize, u32::from_le_bytes(*sum) as i64);
+        Some(places.iter().zip(sums).map(entry).collect())
+    }
+}
+
 /// Order bytes: those of a plan, or others.
 pub fn some_order(random: &mut Random, planned: &Areas) -> Vec<u8> {
     let mut order = planned.order.clone();

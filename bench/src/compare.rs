@@ -25,6 +25,8 @@ struct Tally {
     answers: [u64; 13],
     /// How often the library gave each answer to whether a session is finished.
     finished: BTreeMap<u32, u64>,
+    /// How many deals and brought plans of each kind there were, by their starts.
+    starts: BTreeMap<&'static str, u64>,
 }
 
 /// Compares `count` records; true if all agree.
@@ -55,6 +57,7 @@ impl Tally {
         let refusals: Vec<String> = numbers.map(|(number, count)| format!("{number}: {count}")).collect();
         println!("refusals by number {}", refusals.join(", "));
         println!("answers to whether a session is finished {:?}", self.finished);
+        self.starts.iter().for_each(|(kind, count)| println!("{kind} {count}"));
         println!("disagreements {}", self.disagreements);
     }
 }
@@ -70,24 +73,53 @@ struct Case<'a> {
 impl Case<'_> {
     /// `sample` is what the record says, unless it is damaged.
     fn all(&mut self, sample: Option<&Sample>) {
-        let (steps, mut planned) = self.plan("plan", self.deal.areas(0), Program::plan_into);
+        let (answer, mut planned) = self.plan("plan", self.deal.areas(0), Program::plan_into);
+        let mut steps = answer.max(0) as usize;
         self.tally.plans += (steps > 0) as u64;
         if let Some(sample) = sample {
-            self.search(sample, steps);
-            if steps < 0 {
+            self.search(sample, answer);
+            if steps == 0 {
                 // No order was left, and with a wrong one nothing would be answered of deals that have no plan.
                 planned.order = sample.order();
+                steps = self.bring(sample, &mut planned);
+            }
+            if steps > 0 {
+                let states: Vec<_> = (0..steps).map(|step| (planned.place(step) as usize, planned.sum(step) as i64)).collect();
+                plain::start_kinds(sample, &planned.order, &states).into_iter().for_each(|kind| self.note(kind));
             }
         }
         let lent = self.varied();
         self.plan("plan", lent, Program::plan_into);
         self.sparing(sample);
         self.bounds(&planned);
-        let steps = steps.max(0) as usize;
         for _ in 0..3 {
-            self.check(&planned, steps);
+            self.check(sample, &planned, steps);
         }
-        self.session(&planned, steps);
+        self.session(sample, &planned, steps);
+    }
+
+    /// Brings a plan that is safe but for its start, for a deal that has none, if it is easily found; its number of steps.
+    fn bring(&self, sample: &Sample, planned: &mut Areas) -> usize {
+        let most = self.deal.most_steps();
+        let walk = plain::walk(sample, &planned.order).filter(|steps| steps.len() <= most).unwrap_or_default();
+        planned.put(&walk);
+        walk.len()
+    }
+
+    fn note(&mut self, kind: &'static str) {
+        *self.tally.starts.entry(kind).or_default() += 1;
+    }
+
+    /// Counts a brought plan that was refused for its start alone, and whether its first step stays there.
+    fn note_start(&mut self, sample: Option<&Sample>, planned: &Areas, plan: &Brought, answer: u32) {
+        let ordered = plan.order.get(..8) == planned.order.get(..8);
+        let (Some(sample), Some(steps), true, 12) = (sample, plan.steps(), ordered, answer) else {
+            return;
+        };
+        if plain::is_walk(sample, &planned.order, &steps) {
+            let stays = steps.first() == Some(&(0, 0));
+            self.note(if stays { "brought, start alone not safe, first step stays" } else { "brought, start alone not safe" });
+        }
     }
 
     /// Makes a call to both programs. Counts it, prints it if the results differ, and hands on the library's result.
@@ -195,15 +227,16 @@ impl Case<'_> {
         }
     }
 
-    fn check(&mut self, planned: &Areas, steps: usize) {
+    fn check(&mut self, sample: Option<&Sample>, planned: &Areas, steps: usize) {
         let plan = some_plan(self.random, planned, steps);
         let (record, count) = (self.record, plan.count);
         let call = |program: &Program| (program.check)(record, count, &plan.places, &plan.sums, &plan.order);
         let answer = self.both(("check", &plan), call);
         self.seen(answer);
+        self.note_start(sample, planned, &plan, answer);
     }
 
-    fn session(&mut self, planned: &Areas, steps: usize) {
+    fn session(&mut self, sample: Option<&Sample>, planned: &Areas, steps: usize) {
         let plan = some_plan(self.random, planned, steps);
         let length = if self.random.once_in(8) { self.random.below(14) } else { 10 };
         let before: Vec<u8> = (0..length).map(|_| self.random.byte()).collect();
@@ -213,6 +246,7 @@ impl Case<'_> {
             ((program.open)(&mut session, record, plan.count, &plan.places, &plan.sums, &plan.order), session)
         });
         self.seen(answer);
+        self.note_start(sample, planned, &plan, answer);
         if answer != 0 {
             session = self.some_session(plan.count);
         }

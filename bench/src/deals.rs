@@ -64,6 +64,14 @@ impl Areas {
         u32::from_le_bytes([self.sums[at], self.sums[at + 1], self.sums[at + 2], self.sums[at + 3]])
     }
 
+    /// Stores steps in the first entries.
+    pub fn put(&mut self, steps: &[(usize, i64)]) {
+        for (at, (place, sum)) in steps.iter().enumerate() {
+            self.places[2 * at..2 * at + 2].copy_from_slice(&(*place as u16).to_le_bytes());
+            self.sums[4 * at..4 * at + 4].copy_from_slice(&(*sum as u32).to_le_bytes());
+        }
+    }
+
     /// How many of the first steps pay, and how many deliver.
     pub fn moves(&self, steps: usize) -> [usize; 2] {
         let mut before = (0, 0);

@@ -7,21 +7,33 @@ use crate::sample::{Content, Sample};
 /// All places of a deal, or all amounts of delivered units.
 struct Places {
     price: i64,
+    /// What the goods cost in all, and what they are worth, counted from place 0.
+    rise: (i64, i64),
     lower: Vec<i64>,
     upper: Vec<i64>,
     units: Vec<Vec<usize>>,
 }
 
 fn places(terms: Terms, levels: &[(i64, i64)], units: Vec<Vec<usize>>) -> Places {
-    let last = levels[levels.len() - 1];
+    let (first, last) = (levels[0], levels[levels.len() - 1]);
+    let rise = (last.0 - first.0, last.1 - first.1);
     let price = terms.price as i64;
     let lower = levels.iter().map(|level| (price - last.1 + level.1 - terms.buyer as i64).max(0)).collect();
     let upper = levels.iter().map(|level| (price - last.0 + level.0 + terms.supplier as i64).min(price)).collect();
-    Places { price, lower, upper, units }
+    Places { price, rise, lower, upper, units }
 }
 
 impl Places {
+    /// Leaving costs nothing while nothing has moved; from then on the bounds decide.
     fn safe(&self, place: usize, paid: i64) -> bool {
+        if (place, paid) == (0, 0) {
+            self.rise.0 <= self.price && self.price <= self.rise.1
+        } else {
+            self.within_bounds(place, paid)
+        }
+    }
+
+    fn within_bounds(&self, place: usize, paid: i64) -> bool {
         self.lower[place] <= paid && paid <= self.upper[place]
     }
 
@@ -86,6 +98,92 @@ impl Places {
         }
         weight
     }
+}
+
+/// Plans in which the start is not judged.
+impl Places {
+    fn safe_or_start(&self, state: (usize, i64)) -> bool {
+        state == (0, 0) || self.within_bounds(state.0, state.1)
+    }
+
+    /// Each step goes as far as it can. None if that does not come to the end.
+    fn walk(&self) -> Option<Vec<(usize, i64)>> {
+        let last = self.lower.len() - 1;
+        let mut steps = Vec::new();
+        let (mut place, mut paid) = (0, 0);
+        while (place, paid) != (last, self.price) {
+            let to = (place..=last).rev().find(|to| self.holds(*to, place) && self.safe_or_start((*to, paid)))?;
+            let before = (place, paid);
+            (paid, place) = (self.upper[place].max(paid), to);
+            if (place, paid) == before {
+                return None;
+            }
+            steps.push((place, paid));
+        }
+        Some(steps).filter(|steps| self.is_walk(steps))
+    }
+
+    fn is_walk(&self, steps: &[(usize, i64)]) -> bool {
+        let last = self.lower.len() - 1;
+        let mut from = (0, 0);
+        for to in steps {
+            let forth = to.0 <= last && self.holds(to.0, from.0) && to.1 >= from.1;
+            if !forth || ![(to.0, from.1), (from.0, to.1), *to].iter().all(|state| self.safe_or_start(*state)) {
+                return false;
+            }
+            from = *to;
+        }
+        from == (last, self.price)
+    }
+}
+
+/// The places of a deal; of unit prices along the order that is handed in.
+fn along(terms: Terms, content: &Content, order: &[u8]) -> Places {
+    match content {
+        Content::Ladder(rises) => ladder(terms, rises),
+        Content::Items(items) => ladder(terms, &in_order(items, order)),
+        Content::Table(units, costs, values) => table(terms, units, costs, values),
+    }
+}
+
+/// For a deal that has no plan: steps that are safe but for the start, if they are easily found.
+pub fn walk(sample: &Sample, order: &[u8]) -> Option<Vec<(usize, i64)>> {
+    along(sample.terms, &sample.content, order).walk()
+}
+
+/// Whether brought steps are safe, or would be but for the start.
+pub fn is_walk(sample: &Sample, order: &[u8], steps: &[(usize, i64)]) -> bool {
+    along(sample.terms, &sample.content, order).is_walk(steps)
+}
+
+/// What is counted of a deal with steps that are safe but for the start, if it is not: where the price is in the start's range,
+/// at its ends or beyond them, and whether defection costs alone make states next to the start safe, or would save the start.
+pub fn start_kinds(sample: &Sample, order: &[u8], steps: &[(usize, i64)]) -> Vec<&'static str> {
+    let Sample { terms, content, .. } = sample;
+    let places = along(*terms, content, order);
+    let free = along(Terms { supplier: 0, buyer: 0, ..*terms }, content, order);
+    let (price, rise) = (places.price, places.rise);
+    let last = match content {
+        Content::Table(_, costs, values) => (costs[costs.len() - 1] as i64, values[values.len() - 1] as i64),
+        _ => rise,
+    };
+    let (safe, saved) = (places.safe(0, 0), places.within_bounds(0, 0));
+    let (low, high) = (saved && price < rise.0 && price <= rise.1, saved && price > rise.1 && price >= rise.0);
+    let pairs = std::iter::once(&(0, 0)).chain(steps).zip(steps);
+    let passed = pairs.flat_map(|(from, to)| [(to.0, from.1), (from.0, to.1), *to]).filter(|state| *state != (0, 0));
+    let costly: Vec<_> = passed.filter(|state| !free.within_bounds(state.0, state.1)).collect();
+    let kinds = [
+        (safe && price == rise.0, "planned, price at the lower end"),
+        (safe && price == rise.1, "planned, price at the upper end"),
+        (safe && price < last.0, "planned, price below the last row's cost"),
+        (safe && costly.iter().any(|state| state.1 == 0), "planned, (a, 0) safe by defection costs only"),
+        (safe && costly.iter().any(|state| state.0 == 0), "planned, (0, q) safe by defection costs only"),
+        (low, "start alone not safe, price too low"),
+        (high, "start alone not safe, price too high"),
+        (high && price <= last.1, "start alone not safe, price not above the last row's value"),
+        (!saved, "start alone not safe, nor saved by defection costs"),
+    ];
+    kinds.into_iter().filter_map(|(is, kind)| is.then_some(kind)).collect()
 }
 
 /// The fewest payments, the fewest deliveries and the fewest moves of plans along the order that is handed in; none for a

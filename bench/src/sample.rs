@@ -46,20 +46,30 @@ fn amount(random: &mut Random, scale: &Scale) -> u32 {
     random.within(0, scale.most) as u32 * scale.unit
 }
 
-/// Terms for totals and the greatest amount of a unit: the start is mostly safe, the defection costs are mostly near what
-/// is needed.
+/// Whether cost and value of the goods are to be exchanged: no price suits goods that cost more than they are worth.
+fn exchanged(random: &mut Random, cost: u64, value: u64) -> bool {
+    cost > value && !random.once_in(8)
+}
+
+/// Terms for what all goods cost and are worth, counted from place 0, and the greatest amount of a unit. The start is mostly
+/// safe, or would be if leaving it had its cost; the defection costs are mostly near what is needed.
 fn terms(random: &mut Random, cost: u64, value: u64, widest: u64) -> Terms {
     let tight = random.within(0, 2 * widest + 2);
     let supplier = if random.once_in(6) { 0 } else { random.within(0, tight) };
     let buyer = if random.once_in(6) { tight } else { tight - supplier.min(tight) };
     let least = cost.saturating_sub(supplier);
     let most = value + buyer;
-    let price = match random.below(8) {
-        0 => least,
-        1 => most,
-        2 => random.within(0, cost.max(value) + 2),
-        _ if least <= most => random.within(least, most),
-        _ => least,
+    let price = match random.below(14) {
+        0 => cost,
+        1 => value,
+        2 => cost.saturating_sub(1),
+        3 => value + 1,
+        4 => least,
+        5 => most,
+        6 => random.within(least, cost),
+        7 => random.within(value, most),
+        8 => random.within(0, cost.max(value) + 2),
+        _ => random.within(cost.min(value), cost.max(value)),
     };
     let cut = |amount: u64| amount.min(1_000_000_000) as u32;
     Terms { price: cut(price), supplier: cut(supplier), buyer: cut(buyer) }
@@ -78,8 +88,12 @@ fn ladder(random: &mut Random) -> Sample {
         let cost = amount(random, &scale);
         rises.push((cost, if alike { cost } else { amount(random, &scale) }));
     }
-    let cost = rises.iter().map(|rise| rise.0 as u64).sum();
-    let value = rises.iter().map(|rise| rise.1 as u64).sum();
+    let mut cost = rises.iter().map(|rise| rise.0 as u64).sum();
+    let mut value = rises.iter().map(|rise| rise.1 as u64).sum();
+    if exchanged(random, cost, value) {
+        rises.iter_mut().for_each(|rise| *rise = (rise.1, rise.0));
+        (cost, value) = (value, cost);
+    }
     let terms = terms(random, cost, value, scale.most * scale.unit as u64);
     Sample { deal: deals::ladder(terms, &rises), terms, content: Content::Ladder(rises) }
 }
@@ -97,8 +111,12 @@ fn items(random: &mut Random) -> Sample {
         let units = random.within(1, most_units.min(255)) as u8;
         items.push((units, amount(random, &scale), amount(random, &scale)));
     }
-    let cost = items.iter().map(|item| item.0 as u64 * item.1 as u64).sum();
-    let value = items.iter().map(|item| item.0 as u64 * item.2 as u64).sum();
+    let mut cost = items.iter().map(|item| item.0 as u64 * item.1 as u64).sum();
+    let mut value = items.iter().map(|item| item.0 as u64 * item.2 as u64).sum();
+    if exchanged(random, cost, value) {
+        items.iter_mut().for_each(|item| *item = (item.0, item.2, item.1));
+        (cost, value) = (value, cost);
+    }
     let widest = items.iter().map(|item| item.1.max(item.2) as u64).max().unwrap_or(0);
     let terms = terms(random, cost, value, widest);
     Sample { deal: deals::items(terms, &items), terms, content: Content::Items(items) }
@@ -127,7 +145,7 @@ fn cells(random: &mut Random, units: &[u8], scale: &Scale) -> (Vec<u32>, Vec<Opt
     for row in 0..deals::rows(units) {
         let least = below(units, row).map(|below| full[below]).max().unwrap_or(0);
         let rise = if random.below(4) < blanks { 0 } else { amount(random, scale) };
-        let first = row == 0 && !random.once_in(8);
+        let first = row == 0 && random.once_in(2);
         let cell: u32 = if first { 0 } else { least + rise };
         full.push(cell);
         given.push((cell != least || random.once_in(3)).then_some(cell));
@@ -152,10 +170,13 @@ fn below(units: &[u8], row: usize) -> impl Iterator<Item = usize> {
 fn table(random: &mut Random) -> Sample {
     let units = table_units(random);
     let scale = scale(random, 200);
-    let (costs, given_costs) = cells(random, &units, &scale);
-    let (values, given_values) = cells(random, &units, &scale);
-    let last = costs.len() - 1;
-    let terms = terms(random, costs[last] as u64, values[last] as u64, scale.most * scale.unit as u64);
+    let (mut costs, mut values) = (cells(random, &units, &scale), cells(random, &units, &scale));
+    let rise = |cells: &[u32]| (cells[cells.len() - 1] - cells[0]) as u64;
+    if exchanged(random, rise(&costs.0), rise(&values.0)) {
+        (costs, values) = (values, costs);
+    }
+    let ((costs, given_costs), (values, given_values)) = (costs, values);
+    let terms = terms(random, rise(&costs), rise(&values), scale.most * scale.unit as u64);
     let deal = deals::table(terms, &units, &given_costs, &given_values);
     Sample { deal, terms, content: Content::Table(units, costs, values) }
 }

@@ -68,22 +68,40 @@ def world_along(contract, order):
 # Steps
 
 def safe(world, place, paid):
-    """Whether neither side gains by leaving."""
-    header = world.header
-    supplier_leaves = paid - world.costs[place] - header.supplier > header.price - world.costs[-1]
-    buyer_leaves = world.values[place] - paid - header.buyer > world.values[-1] - header.price
-    return 0 <= paid <= header.price and not supplier_leaves and not buyer_leaves
+    """Whether neither side gains by leaving. The paper: a firm that withdraws "while nothing is delivered and nothing paid bears
+    no leaving cost"."""
+    return free_safe(world, place, paid) if (place, paid) == START else costly_safe(world, place, paid)
 
 
-def safe_sums(world):
+def costly_safe(world, place, paid):
+    """The same where each side bears its leaving cost, as at the start too before the terms changed."""
+    return nobody_leaves(world, place, paid, world.header.supplier, world.header.buyer)
+
+
+def free_safe(world, place, paid):
+    return nobody_leaves(world, place, paid, 0, 0)
+
+
+def safe_or_start(world, place, paid):
+    return (place, paid) == START or costly_safe(world, place, paid)
+
+
+def nobody_leaves(world, place, paid, supplier, buyer):
+    price = world.header.price
+    supplier_leaves = paid - world.costs[place] - supplier > price - world.costs[-1]
+    buyer_leaves = world.values[place] - paid - buyer > world.values[-1] - price
+    return 0 <= paid <= price and not supplier_leaves and not buyer_leaves
+
+
+def safe_sums(world, judge=safe):
     """For each place the safe paid sums."""
-    return [{paid for paid in range(world.header.price + 1) if safe(world, place, paid)}
+    return [{paid for paid in range(world.header.price + 1) if judge(world, place, paid)}
             for place in range(len(world.costs))]
 
 
-def all_steps(world):
+def all_steps(world, judge=safe):
     """For each safe state the states to which a step leads that moves something."""
-    sums = safe_sums(world)
+    sums = safe_sums(world, judge)
     places = range(len(world.costs))
     above = [[b for b in places if all(m >= n for m, n in zip(world.held[b], world.held[a]))] for a in places]
     return {(a, p): [(b, q) for b in above[a] if p in sums[b]
@@ -154,9 +172,9 @@ def is_plan(world, steps, states):
         before in steps and (after == before or after in steps[before]) for before, after in zip(path, path[1:]))
 
 
-def some_plan_exists(contract):
+def some_plan_exists(contract, judge=safe):
     """Whether a rival plan exists in any order."""
-    return any(layers(world, all_steps(world)) for world in worlds(contract))
+    return any(layers(world, all_steps(world, judge)) for world in worlds(contract))
 
 
 # The order for unit prices: the paper's own sentences, by the bounds along the very order that is judged
@@ -337,15 +355,66 @@ def starts_kind(contract, found):
 
 TIE, WAITS, SEGMENTS, LATER_ROWS = "tie", "greater surplus waits", "other by whole segments", "later rows in as many steps"
 CLIPPED = "other by clipped bounds, or none"
-KINDS = {LADDER: (), TABLE: (LATER_ROWS,),
-         UNIT_PRICES: (*(f"{kind} {side}" for kind in (TIE, WAITS) for side in (FRONT, BEHIND)), SEGMENTS, CLIPPED)}
+TOO_LOW, TOO_HIGH = (f"a plan but for the start, P too {how}" for how in ("low", "high"))
+LEAST, MOST = (f"planned, P at the {end} end" for end in ("lower", "upper"))
+UNPAID, UNDELIVERED = (f"{state} is safe by leaving costs" for state in ("(a, 0)", "(0, q)"))
+FIRST_COST, FIRST_VALUE = (f"other without row 0's {amount}" for amount in ("cost", "value"))
+STARTS, ROW_0 = (TOO_LOW, TOO_HIGH, LEAST, MOST, UNPAID, UNDELIVERED), (FIRST_COST, FIRST_VALUE)
+KINDS = {LADDER: STARTS, TABLE: (LATER_ROWS, *STARTS, *ROW_0),
+         UNIT_PRICES: (*(f"{kind} {side}" for kind in (TIE, WAITS) for side in (FRONT, BEHIND)), SEGMENTS, CLIPPED, *STARTS)}
 
 
 def kinds(contract, found):
     """Which of its form's kinds a deal is of; found is (steps, items) or None."""
-    if found is None or contract.header.form == LADDER:
-        return set()
-    return order_kinds(contract, found[1]) if contract.header.form == UNIT_PRICES else table_kinds(contract, len(found[0]))
+    if found is None:
+        seen = start_faults(own_world(contract, range(1, contract.header.count + 1)))  # the start is the same in every order
+        return seen if seen and some_plan_exists(contract, costly_safe) else set()
+    steps, items = found
+    seen = planned_kinds(own_world(contract, items), steps)
+    if contract.header.form == UNIT_PRICES:
+        seen |= order_kinds(contract, items)
+    elif contract.header.form == TABLE:
+        seen |= table_kinds(contract, len(steps))
+    return seen
+
+
+def start_faults(world):
+    """Of which kinds a deal is that has a plan but for its start; of none if the price is beyond both ends, or beyond neither."""
+    price = world.header.price
+    low, high = price < world.costs[-1] - world.costs[0], price > world.values[-1] - world.values[0]
+    of_kind = low and not high, high and not low, high and not low and price <= world.values[-1]
+    return set(compress((TOO_LOW, TOO_HIGH, FIRST_VALUE), of_kind))
+
+
+def planned_kinds(world, steps):
+    """A price at an end of the start's range, or below the last cost; and states where firms only stay for their leaving costs."""
+    price, (costs, values) = world.header.price, (world.costs, world.values)
+    of_kind = price == costs[-1] - costs[0], price == values[-1] - values[0], price < costs[-1]
+    return set(compress((LEAST, MOST, FIRST_COST), of_kind)) | passed_kinds(world, steps)
+
+
+def passed_kinds(world, steps):
+    """Among the states of a plan's steps those with nothing paid or nothing delivered."""
+    path = [START, *steps]
+    passed = {(place, paid) for (a, p), (b, q) in zip(path, path[1:]) for place in (a, b) for paid in (p, q)}
+    costly = [state for state in passed - {START} if not free_safe(world, *state)]
+    return set(compress((UNPAID, UNDELIVERED), (any(paid == 0 for _, paid in costly), any(place == 0 for place, _ in costly))))
+
+
+# Kinds of brought plans that have to come up where they are checked
+
+START_ALONE = "refused for the start alone"
+EMPTY_START, NEVER_SAFE = (START_ALONE + more for more in (", where the first step stays", ", which leaving costs would not save"))
+BROUGHT_KINDS = START_ALONE, EMPTY_START, NEVER_SAFE, UNPAID, UNDELIVERED
+
+
+def brought_kinds(world, states, safe_plan, safe_by_costs, safe_but_for_start):
+    """Of which kinds a plan is, by whether it is safe, whether it would be if leaving the start had its cost, and whether it would
+    be if the start were not judged."""
+    if safe_plan:
+        return passed_kinds(world, states)
+    of_kind = safe_by_costs, safe_by_costs and states[0] == START, safe_but_for_start and not safe_by_costs
+    return set(compress((START_ALONE, EMPTY_START, NEVER_SAFE), of_kind))
 
 
 def order_kinds(contract, items):

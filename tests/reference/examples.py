@@ -77,12 +77,17 @@ STOCKS = (("MSFT", 60, 9_081, 9_800), ("HWP", 30, 10_263, 10_990), ("DELL", 10, 
 STOCK_ORDER = (3, 5, 4, 1, 2)
 
 # Two items of one unit each, and the deal: the order 1, 2 has a shorter plan than the order 2, 1
-TWO_ORDERS_DEAL = (6, 0, 5)
+TWO_ORDERS_DEAL = (3, 0, 2)
 TWO_ORDERS = ((2, 3), (0, 1))
 
 # Units, cost and value of a unit, and the deal: comparing units gives another order than comparing all units of an item
 TWO_RULES_DEAL = (13, 1, 1)
 TWO_RULES = ((3, 2, 1), (1, 3, 1), (3, 1, 2), (1, 1, 3))
+
+# A table in which not all cost and value are still to come at the start
+FIRST_ROW_DEAL = (6, 1, 2)
+FIRST_ROW_COSTS = (3, 5, 6, 8)
+FIRST_ROW_VALUES = (2, 4, 5, 9)
 
 LARGEST = 1_000_000_000
 
@@ -91,7 +96,7 @@ LARGEST = 1_000_000_000
 
 def examples():
     return [*case_a_and_its_changes(), case_e(), case_f(), *cases_g_and_h(), *sessions_and_cuts(),
-            two_orders(), two_rules(), table_3(), *stocks(), *long_ladders(), *totals()]
+            two_orders(), two_rules(), table_3(), first_row(), *stocks(), *long_ladders(), *totals()]
 
 
 def case_a_and_its_changes():
@@ -103,7 +108,8 @@ def case_a_and_its_changes():
         Example("case-b", ladder((10, 1, 2), CASE_A_RISES), 0, ("Case B: case A with cd 2.", rises),
                 ("Planning: refused 9.",)),
         Example("case-c", ladder((7, 1, 3), CASE_A_RISES), 0, ("Case C: case A with P 7.", rises),
-                ("Planning: (1, 0), (1, 4), (2, 4), (2, 7).",)),
+                ("Planning: refused 9, since the start is not safe: P is below 8, the whole cost. All else would admit",
+                 "(1, 0), (1, 4), (2, 4), (2, 7).")),
         Example("case-d", ladder((6, 1, 3), CASE_A_RISES), 0, ("Case D: case A with P 6.", rises),
                 ("Planning: refused 9, since the start is not safe.",)),
     ]
@@ -158,8 +164,8 @@ def sessions_and_cuts():
 
 def two_orders():
     return Example("two-orders", unit_prices(TWO_ORDERS_DEAL, [(1, *item) for item in TWO_ORDERS]), 0,
-                   ("Unit prices, two items of one unit each, cost and value (2, 3) and (0, 1); P 6, cs 0, cd 5.",),
-                   ("Planning: order 2, 1; (1, 4), (2, 4), (2, 6). Both items would fill the last place equally well, so that",
+                   ("Unit prices, two items of one unit each, cost and value (2, 3) and (0, 1); P 3, cs 0, cd 2.",),
+                   ("Planning: order 2, 1; (1, 1), (2, 1), (2, 3). Both items would fill the last place equally well, so that",
                     "the lower number does. The order 1, 2 has a plan of 2 steps: the count is against plans in the same order.",))
 
 
@@ -180,6 +186,15 @@ def table_3():
                    ("The same contract as case F. Writing it again gives case F's record.",
                     "Planning: case F's plan, whose first row is 1. Document 000's own plan of 5 steps is safe too, and later:",
                     "rows 2, 3, 4, 4, 9 and paid totals 5, 14, 18, 22, 22."))
+
+
+def first_row():
+    return Example("first-row", table(FIRST_ROW_DEAL, (1, 1), FIRST_ROW_COSTS, FIRST_ROW_VALUES), 0,
+                   ("Table whose row 0 has a cost and a value; P 6, cs 1, cd 2. Units 1 and 1, four rows.",
+                    f"Costs: {listed(FIRST_ROW_COSTS)}.", f"Values: {listed(FIRST_ROW_VALUES)}."),
+                   ("Upper bounds 2, 4, 5, 6; lower bounds 0, 0, 0, 4.",
+                    "Planning: (1, 2), (1, 4), (3, 4), (3, 6). The start is safe, since P lies from 8 - 3 to 9 - 2; the last",
+                    "cost and value alone do not tell. With P 8 planning would be refused with 9, though P is between them still."))
 
 
 def stocks():

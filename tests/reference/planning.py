@@ -29,11 +29,13 @@ DELIVERY, PAYMENT = 0, 1                    # the sides of a report
 START = (0, 0)                              # nothing delivered, nothing paid
 
 
-# Deals: the places of a contract along one order of its items, with the bounds of each place
+# Deals: the places of a contract along one order of its items, with the cost, the value and the bounds of each place
 
 @dataclass(frozen=True)
 class Deal:
     price: int
+    costs: list
+    values: list
     lower: list
     upper: list
     held: list  # for each place the units of every item; along one order the number of units says it all
@@ -47,8 +49,14 @@ class Deal:
         return all(m >= n for m, n in zip(self.held[place], self.held[other]))
 
     def safe(self, place, paid):
-        """Clipped bounds admit no sum below 0 and none above P."""
+        """The start by its own rule. Elsewhere clipped bounds admit no sum below 0 and none above P."""
+        if (place, paid) == START:
+            return self.fair_start()
         return self.lower[place] <= paid <= self.upper[place]
+
+    def fair_start(self):
+        """The paper: (0, 0) is safe "if P lies from vs(L) - vs(0) to vd(L) - vd(0), both ends included"."""
+        return self.costs[-1] - self.costs[0] <= self.price <= self.values[-1] - self.values[0]
 
     def is_step(self, before, after):
         """The paper's step: nothing is taken back, and all four states are safe."""
@@ -71,7 +79,8 @@ def deal_of(contract, order=()):
     """
     price = contract.header.price
     lower, upper = unclipped_bounds(contract, order)
-    return Deal(price, [max(bound, 0) for bound in lower], [min(bound, price) for bound in upper], held_units(contract))
+    return Deal(price, *place_totals(contract, order), [max(bound, 0) for bound in lower], [min(bound, price) for bound in upper],
+                held_units(contract))
 
 
 def unclipped_bounds(contract, order):
@@ -183,12 +192,17 @@ def plan_of(contract):
     if items is None:
         return None
     deal = deal_of(contract, items)
-    steps = fewest_steps(deal) if contract.header.form == TABLE else steps_along(deal)
+    steps = steps_in(contract, deal)
     if steps is None:
         assert contract.header.form != UNIT_PRICES or not deal.safe(*START)  # the order itself admits a plan
         return None
     assert deal.is_plan(steps) and len(steps) <= 2 * all_units(contract) + 1
     return steps, items
+
+
+def steps_in(contract, deal):
+    """The steps that the rule of the contract's form makes, or None if there is no plan in this order."""
+    return fewest_steps(deal) if contract.header.form == TABLE else steps_along(deal)
 
 
 def steps_along(deal):

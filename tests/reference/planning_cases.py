@@ -2,8 +2,9 @@
 
 plan_cases(seed), bounds_cases(seed), check_cases(seed), session_cases(seed)   one by one, of the classes below
 
-Most deals are tight: the leaving costs are about the least with which a plan exists, and the price is at or next to an
-end of the range in which the start is safe. So many are impossible and many just possible.
+Most deals are tight: the leaving costs are about the least with which a plan exists, and the price is within the range in
+which the start is safe, at an end of it, or next to one. So many are impossible and many just possible; of some the start
+alone is not safe.
 """
 import random
 from dataclasses import dataclass, replace
@@ -68,7 +69,14 @@ def some_goods(rng, form, most_units, most_amount):
 def goods_maker(rng, form):
     """More than half of the unit prices are items whose order is hard to pick. These meet the conditions on a small deal less
     often than others, so that its maker is drawn once."""
-    return ranked_items if form == UNIT_PRICES and rng.random() < 0.6 else (some_ladder, some_items, some_table)[form]
+    make = ranked_items if form == UNIT_PRICES and rng.random() < 0.6 else (some_ladder, some_items, some_table)[form]
+    return lambda *limits: worth_it(rng, make(*limits))
+
+
+def worth_it(rng, goods):
+    """Mostly goods that are worth at least what they cost: no price suits others. Cost and value are exchanged for that."""
+    cost, value = whole_rises(goods)
+    return replace(goods, costs=goods.values, values=goods.costs) if cost > value and rng.random() < 0.9 else goods
 
 
 def some_ladder(rng, most_units, most_amount):
@@ -87,20 +95,29 @@ def some_items(rng, most_units, most_amount):
 
 
 def ranked_items(rng, most_units, most_amount):
-    """Items that all come first, or all last. One may have more units than the others, which tells where whole segments are
-    compared. Of some a greater surplus needs more room, so that in a tight deal it has to wait."""
-    count = rng.randint(2, min(most_units, record.MOST_ITEMS[UNIT_PRICES]))
+    """Items that all come last, or all first but one that outweighs them: else no price would suit. One may have more units than
+    the others, which tells where whole segments are compared. Of some a greater surplus needs more room, so that in a tight deal
+    it has to wait."""
+    outweighed = most_units > 2 and rng.random() < 0.7
+    most_units -= outweighed
+    count = rng.randint(2, min(most_units, record.MOST_ITEMS[UNIT_PRICES] - outweighed))
     units = [1] * count
     more = min(most_units - count, record.MOST_ITEM_UNITS - 1)
     units[rng.randrange(count)] += rng.randint(min(more, 1), more)
     amounts = [range(least, least + max(count, most_amount // 2 + 2)) for least in (0, 1)]
-    if rng.random() < 0.4:
+    if rng.random() < 0.55:
         needs, surplus = (sorted(rng.sample(some, count)) for some in amounts)
     else:
         needs, surplus = (rng.choices(some, k=count) for some in amounts)
-    lines = rng.sample([(need + gain, need) for need, gain in zip(needs, surplus)], count)
-    columns = [list(column) for column in zip(*lines)]
-    return Contract(Header(form=UNIT_PRICES, count=count, units=record.padded(units)), *rng.sample(columns, 2))
+    lines = [(n, need + gain, need) for n, need, gain in zip(units, needs, surplus)]
+    if outweighed:
+        cost = rng.choice((0, 0, rng.choice(needs)))
+        lines.append((1, cost, cost + sum(n * gain for n, gain in zip(units, surplus)) + rng.choice((0, 0, 0, 1, 2))))
+    else:
+        lines = [(n, need, more) for n, more, need in lines]
+    rng.shuffle(lines)
+    units, *columns = (list(column) for column in zip(*lines))
+    return Contract(Header(form=UNIT_PRICES, count=len(lines), units=record.padded(units)), *columns)
 
 
 def some_table(rng, most_rows, most_amount):
@@ -117,11 +134,11 @@ def table_units(rng, most_rows):
 
 
 def some_cells(rng, units, most_amount):
-    """Cells that never fall. Of some tables many cells are what the filling rule restores; row 0 need not be zero."""
+    """Cells that never fall. Of some tables many cells are what the filling rule restores; row 0 is mostly not zero."""
     flat = rng.choice((0, 0, 0.3, 0.7))
     cells = []
     for row in range(record.row_count(units)):
-        rise = 0 if rng.random() < flat or row == 0 and rng.random() < 0.7 else rng.randint(0, most_amount)
+        rise = 0 if rng.random() < (flat if row else 0.4) else rng.randint(row == 0, most_amount)
         cells.append(record.filling(cells, row, units) + rise)
     return cells
 
@@ -145,13 +162,19 @@ def loose(rng, contract):
 
 
 def priced(rng, contract, leaving_costs):
-    """Splits the leaving costs between the two sides and takes a price at or near an end of the safe range."""
+    """Splits the leaving costs between the two sides. Takes a price at which the start is safe; or one beside these, next to them
+    or about as far off as the leaving costs reach, and these costs at times greater, so that the start alone is at fault."""
+    beside = rng.random() < 0.4
+    leaving_costs += rng.choice((0, 1, 2)) if beside else 0
     supplier = rng.choice((0, leaving_costs, rng.randint(0, leaving_costs)))
     buyer = leaving_costs - supplier
     cost, value = whole_rises(contract)
-    least, most = cost - supplier, value + buyer
-    within = rng.randint(min(least, most), max(least, most))
-    price = rng.choice((least, most, within, within, within, within, least - 1, most + 1))
+    if beside:
+        below = cost - rng.choice((1, 1, supplier, supplier + 1, rng.randint(0, supplier)))
+        above = value + rng.choice((1, 1, buyer, buyer + 1, rng.randint(0, buyer)))
+        price = rng.choice((below, above))
+    else:
+        price = rng.choice((cost, value, *(rng.randint(min(cost, value), max(cost, value)) for _ in range(4))))
     return with_deal(contract, price, supplier, buyer)
 
 
@@ -209,7 +232,7 @@ def large_deal(rng, form):
         units = rng.choice(LARGE_TABLES)
         columns = (some_cells(rng, units, min(most_amount, 10_000)) for _ in range(2))
         goods = Contract(Header(form=TABLE, count=len(units), units=record.padded(units)), *columns)
-    return rng.choice((tight, tight, loose))(rng, goods)
+    return rng.choice((tight, tight, loose))(rng, worth_it(rng, goods))
 
 
 def even_deal(form, units, amount, supplier, buyer):
@@ -344,8 +367,8 @@ def damaged_plans(rng, count):
 def extreme_plans(rng, count):
     """Amounts up to the limit, mostly far from any plan; some make every state safe."""
     contracts = [record_cases.some_contract(rng, FORMS[i % 3]) for i in range(count)]
-    contracts += [with_deal(contract, rng.choice((0, MOST_MONEY)), MOST_MONEY, MOST_MONEY)
-                  for contract in contracts[::2]]
+    goods = [worth_it(rng, contract) for contract in contracts[::2]]
+    contracts += [with_deal(some, rng.choice((0, MOST_MONEY, *whole_rises(some))), MOST_MONEY, MOST_MONEY) for some in goods]
     yield from (plan_case(rng, "extreme", contract) for contract in contracts)
 
 
@@ -414,20 +437,33 @@ def bounds_cases(seed, scale=1):
 
 # Brought plans: lists of states, changed in one way each
 
+class AnyStart(planning.Deal):
+    """A deal in which the start is not judged, so that plans come up that are safe but for it."""
+
+    def safe(self, place, paid):
+        return (place, paid) == planning.START or self.lower[place] <= paid <= self.upper[place]
+
+
+def from_any_start(contract, items):
+    return AnyStart(**vars(planning.deal_of(contract, items)))
+
+
 @dataclass
 class Brought:
     contract: Contract
-    deal: planning.Deal
+    deal: AnyStart
     items: tuple
     steps: list
 
 
 def brought(rng, contract):
-    """Ours, or another walk along bounds; where no safe plan is found, states at random."""
-    found = planning.plan_of(contract)
-    steps, items = found or (None, rng.sample(range(1, contract.header.count + 1), contract.header.count))
-    items = tuple(items) if contract.header.form == UNIT_PRICES else ()
-    deal = planning.deal_of(contract, items)
+    """Ours, or another walk along bounds, whether or not the start is safe; where no such plan is found, states at random."""
+    items = ()
+    if contract.header.form == UNIT_PRICES:
+        items = planning.chosen_order(contract) or tuple(rng.sample(range(1, contract.header.count + 1), contract.header.count))
+    deal = from_any_start(contract, items)
+    # the walk itself needs bounds that admit the start
+    steps = planning.steps_in(contract, replace(deal, lower=[0, *deal.lower[1:]], upper=[max(deal.upper[0], 0), *deal.upper[1:]]))
     if steps is None or not deal.is_plan(steps):
         steps = sorted((rng.randint(0, deal.last), rng.randint(0, deal.price)) for _ in range(rng.randint(0, 4)))
         steps.append((deal.last, deal.price))
@@ -447,7 +483,7 @@ def slower(rng, deal, steps):
     while path[-1] != (deal.last, deal.price) and len(path) < 3 * len(steps) + 4:
         a, p = path[-1]
         delivered = max(b for b in range(deal.last + 1) if deal.is_step((a, p), (b, p)))
-        path.append((delivered, deal.upper[a]))
+        path.append((delivered, max(p, deal.upper[a])))
     return path[1:]
 
 
@@ -567,7 +603,8 @@ def with_cut_area(rng, case):
 
 def with_damage(rng, case):
     contract = record.parse(case.record)
-    return replace(case, kind="damaged", record=damaged(rng, contract))
+    # a reader with a fault may refuse a sound record, which is found where the case is compared
+    return replace(case, kind="damaged", record=damaged(rng, contract)) if isinstance(contract, Contract) else case
 
 
 def check_cases(seed, scale=1):
@@ -581,6 +618,8 @@ def changed_plans(rng, form, small, large):
     for _ in range(small):
         plan = brought(rng, small_deal(rng, form))
         yield from [check_case(rng, NAMES[form], plan) for _ in range(5)]
+        if not planning.deal_of(plan.contract, plan.items).safe(*planning.START):
+            yield from [brought_case(rng, f"{NAMES[form]} start", plan, steps) for steps in (plan.steps, empty_start(rng, plan))]
     for _ in range(large):
         plan = brought(rng, large_deal(rng, form))
         yield from [check_case(rng, "large " + NAMES[form], plan) for _ in range(4)]

@@ -25,6 +25,7 @@ MOST_LISTED = 300      # plans of one deal that are listed one by one
 MIDDLE_DEALS = 60      # tables with more rows and a greater price
 SPARING_DEALS = 5_000  # of each form but tables
 RAREST = 30            # at least one of so many deals is of each kind
+RAREST_GENERATED = 60  # the same of generated cases, many of which are refused for something else
 
 ROOM = 9_000           # bytes, enough for every area of the cases below but a table's work area
 WORK = 40_000
@@ -68,6 +69,8 @@ def table(deal, units, costs, values):
 A = bytes.fromhex("0f00 0a000000 01000000 03000000 0200 04000000 06000000 04000000 06000000")
 A_STEPS = [(0, 3), (1, 3), (1, 7), (2, 7), (2, 10)]
 A_RISES = [(4, 6), (4, 6)]
+C = ladder((7, 1, 3), A_RISES)
+C_STEPS = [(1, 0), (1, 4), (2, 4), (2, 7)]  # safe but for the start
 F = table((22, 2, 2), (1, 4), (0, 5, 9, 13, 17, 10, 13, 16, 18, 19), (0, 3, 6, 10, 14, 6, 10, 15, 20, 26))
 G_ITEMS = [(1, 5, 3), (1, 3, 6)]
 # the surplus of a unit is greater in items 2 and 4, that of all units together in items 1 and 3
@@ -110,7 +113,7 @@ def paper_cases():
     expect(planning.bounds(A, 3, ZEROS), refused(5), "A's bounds beyond the last place")
     expect(planned(A), steps_reply(A_STEPS), "A")
     expect(planned(ladder((10, 1, 2), A_RISES)), refused(9), "B")
-    expect(planned(ladder((7, 1, 3), A_RISES)), steps_reply([(1, 0), (1, 4), (2, 4), (2, 7)]), "C")
+    expect(planned(C), refused(9), "C")
     d = ladder((6, 1, 3), A_RISES)
     expect(planned(d), refused(9), "D")
     expect([planning.bounds(d, place, ZEROS) for place in range(3)], [(0, -1), (0, 3), (3, 6)], "D's bounds, a negative one too")
@@ -123,8 +126,29 @@ def paper_cases():
     expect(planning.check(A, 5, *areas(A_STEPS), ZEROS), 0, "A's plan is safe")
     expect(planning.check(A, 3, *areas([(0, 3), (2, 3), (2, 10)]), ZEROS), 12, "J")
     expect((planned(A[:31]), planned(A + b"\0")), (refused(1), refused(7)), "K")
-    two_ways = table((3, 0, 2), (1, 1), (0, 0, 1, 1), (0, 0, 0, 1))
-    expect(planned(two_ways), steps_reply([(2, 2), (3, 3)]), "the shorter way to a row is not always the better one")
+    two_ways = table((2, 0, 1), (1, 1), (0, 0, 1, 1), (0, 0, 0, 2))
+    expect(planned(two_ways), steps_reply([(2, 1), (3, 2)]), "the shorter way to a row is not always the better one")
+
+
+def starts_by_hand():
+    """P at both ends of its range and next to them, where leaving costs would let each deal be; C's plan of old; and row 0."""
+    for what, low, high, of in (
+            ("ladder", 1, 2, lambda price: ladder((price, 1, 1), [(1, 2)])),
+            ("unit prices", 3, 4, lambda price: unit_prices((price, 2, 2), [(1, 2, 1), (1, 1, 3)])),
+            ("table", 2, 3, lambda price: table((price, 1, 1), (1,), (5, 7), (7, 10)))):
+        for price in range(low - 1, high + 2):
+            for reply in planned(of(price)), *(spared(of(price)) if what != "table" else ()):
+                expect(reply[0] == "steps", low <= price <= high, f"the start, {what}, P {price}")
+            old = brute.some_plan_exists(record.parse(of(price)), brute.costly_safe)
+            expect(old, True, f"a plan but for the start, {what}, P {price}")
+    for steps in C_STEPS, [(0, 0), *C_STEPS], [(0, 0)] * 3 + C_STEPS:
+        brought = len(steps), *areas(steps), ZEROS
+        expect((planning.check(C, *brought), planning.open(C, *brought)), (12, (12, None)), f"C's plan of old: {steps}")
+    expect([planning.bounds(C, place, ZEROS) for place in range(3)], [(0, 0), (0, 4), (4, 7)], "C's bounds are as they were")
+    row_0 = table((6, 1, 2), (1, 1), (3, 5, 6, 8), (2, 4, 5, 9))
+    expect(planned(row_0), steps_reply([(1, 2), (1, 4), (3, 4), (3, 6)]), "P below the last cost, not below its rise")
+    above = table((8, 1, 2), (1, 1), (3, 5, 6, 8), (2, 4, 5, 9))
+    expect(planned(above), refused(9), "P below the last value, above its rise")
 
 
 def case_i():
@@ -161,8 +185,8 @@ def orders_by_hand():
     for what, deal, items, wanted in (
             ("the lower number on a tie, from behind nearer the end", (6, 1, 0), [first, first, last, last], (1, 2, 4, 3)),
             ("equal cost and value come first", (5, 1, 1), [last, same, first], (3, 2, 1)),
-            ("the greater surplus from the front", (6, 3, 3), [(1, 5, 3), first], (1, 2)),
-            ("the greater surplus waits for room", (6, 2, 3), [(1, 5, 3), first], (2, 1)),
+            ("the greater surplus from the front", (7, 2, 1), [(1, 5, 3), first, (1, 0, 3)], (1, 2, 3)),
+            ("the greater surplus waits for room", (7, 1, 1), [(1, 5, 3), first, (1, 0, 3)], (2, 1, 3)),
             ("the greater surplus from behind", (6, 2, 1), [(1, 3, 5), last], (2, 1)),
             ("the greater surplus waits for room behind", (6, 1, 1), [(1, 3, 5), last], (1, 2))):
         expect(planned(unit_prices(deal, items))[::2], ("steps", order_of(*wanted)), what)
@@ -177,12 +201,13 @@ def orders_by_hand():
 def orders_by_unclipped_bounds():
     """What each order would be, if the difference were taken between the clipped bounds."""
     for clipped, deal, items, wanted in (
-            ([], (3, 2, 0), [(1, 5, 5), (1, 0, 100)], (1, 2)),
-            ([(2, 1)], (1, 2, 1), [(1, 2, 1), (1, 1, 0)], (1, 2)),
+            ([], (5, 2, 0), [(1, 5, 5), (1, 0, 100)], (1, 2)),
+            ([(2, 1, 3)], (3, 0, 0), [(1, 2, 1), (1, 1, 0), (1, 0, 3)], (1, 2, 3)),
             ([(1, 2)], (1, 1, 0), [(1, 1, 2), (1, 0, 1)], (2, 1))):
         data = unit_prices(deal, items)
         expect(planned(data)[::2], ("steps", order_of(*wanted)), f"the order by unclipped bounds: {deal} {items}")
-        by_clipped = [some for some in permutations((1, 2)) if brute.is_chosen(record.parse(data), some, brute.bounds)]
+        orders = permutations(range(1, len(items) + 1))
+        by_clipped = [some for some in orders if brute.is_chosen(record.parse(data), some, brute.bounds)]
         expect(by_clipped, clipped, f"the orders by clipped bounds: {deal} {items}")
 
 
@@ -220,18 +245,19 @@ def spared(data, *lengths):
 
 def sparing_cases_by_hand():
     expect(spared(A), [steps_reply(A_STEPS)] * 3, "A, sparing: no first delivery")
-    c_steps = [(1, 0), (1, 4), (2, 4), (2, 7)]
-    expect(spared(ladder((7, 1, 3), A_RISES)), [steps_reply(c_steps)] * 3, "C, sparing: no first payment")
+    no_payment = steps_reply([(1, 0), (1, 4), (2, 4), (2, 8)])
+    expect(spared(ladder((8, 0, 4), A_RISES)), [no_payment] * 3, "no first payment")
     expect(spared(ladder((0, 0, 0), [(0, 0)])), [steps_reply([(1, 0)])] * 3, "E, sparing")
     one_two = order_of(1, 2)
     by_delivery = steps_reply([(1, 0), (1, 6), (2, 6), (2, 8)], one_two)
     by_payment = steps_reply([(0, 1), (1, 1), (1, 6), (2, 6), (2, 8)], one_two)
     expect(spared(unit_prices((8, 1, 2), G_ITEMS)), [by_delivery, by_payment, by_delivery], "G, sparing: two payments are enough")
     by_delivery, by_payment = steps_reply([(1, 0), (1, 1)]), steps_reply([(0, 1), (1, 1)])
-    expect(spared(ladder((1, 1, 1), [(0, 0)])), [by_delivery, by_payment, by_payment], "the payment start on a tie")
+    expect(spared(ladder((1, 1, 1), [(0, 1)])), [by_delivery, by_payment, by_payment], "the payment start on a tie")
     by_delivery, by_payment = steps_reply([(1, 0), (1, 2), (2, 2)]), steps_reply([(0, 2), (2, 2)])
     expect(spared(ladder((2, 0, 1), [(0, 1)] * 2)), [by_delivery, by_payment, by_payment], "one delivery is enough")
-    for name, data in ("B", ladder((10, 1, 2), A_RISES)), ("D", ladder((6, 1, 3), A_RISES)), ("H", unit_prices((8, 1, 1), G_ITEMS)):
+    for name, data in (("B", ladder((10, 1, 2), A_RISES)), ("C", C), ("D", ladder((6, 1, 3), A_RISES)),
+                       ("H", unit_prices((8, 1, 1), G_ITEMS))):
         expect(spared(data), [refused(9)] * 3, f"{name}, sparing")
     longest = planning_cases.unit_by_unit(LADDER, (1_000,))
     expect([len(sparing.plan_of(goal, longest)[0]) for goal in sparing.GOALS], [2_001] * 3, "2U + 1 steps, sparing")
@@ -267,13 +293,13 @@ def sparing_deals(rng):
         all_kinds(seen, brute.START_KINDS + brute.KINDS[form], SPARING_DEALS)
 
 
-def all_kinds(seen, kinds, deals):
-    expect([kind for kind in kinds if seen[kind] < deals / RAREST], [], f"kinds that are too rare: {seen}")
+def all_kinds(seen, kinds, deals, rarest=RAREST):
+    expect([kind for kind in kinds if seen[kind] < deals / rarest], [], f"kinds that are too rare: {seen}")
 
 
 # Tiny deals against all plans
 
-def tiny_deal(rng, contract):
+def tiny_deal(contract):
     """What the planner says of one deal, against all safe plans of all orders; of which kinds the deal is."""
     found = planning.plan_of(contract)
     for what, got, wanted in brute.judged(contract, found):
@@ -282,7 +308,6 @@ def tiny_deal(rng, contract):
         world = brute.own_world(contract, found[1])
         ways = brute.all_steps(world)
         listed_plans(contract, world, ways, brute.layers(world, ways))
-        changed_plans(rng, contract, world, ways)
     return brute.kinds(contract, found)
 
 
@@ -299,22 +324,32 @@ def listed_plans(contract, world, ways, layers):
             expect(brute.fewest_moves(goal, world, ways), fewest, f"fewest {goal} of all plans: {contract}")
 
 
-def changed_plans(rng, contract, world, ways):
-    """Brought plans, most of them changed, are safe exactly if all their steps are among all steps."""
+def changed_plans(rng, contract):
+    """Brought plans, most of them changed, are safe exactly if all their steps are among all steps, and opening says the same. Of
+    which kinds they are."""
     plan = planning_cases.brought(rng, contract)
-    for change in rng.sample(planning_cases.CHANGES, 4):
+    world = brute.own_world(contract, plan.items)
+    ways = [brute.all_steps(world, judge) for judge in (brute.safe, brute.costly_safe, brute.safe_or_start)]
+    data = record.write(contract.header, contract.costs, contract.values, ROOM)
+    for change in *rng.sample(planning_cases.CHANGES, 4), planning_cases.unchanged, planning_cases.empty_start:
         states = change(rng, plan)
-        data = record.write(contract.header, contract.costs, contract.values, ROOM)
-        number = planning.check(data, len(states), *areas(states), planning.order_bytes(plan.items))
-        expect(number, 0 if brute.is_plan(world, ways, states) else 12, f"{change.__name__}: {contract} {states}")
+        brought = data, len(states), *areas(states), planning.order_bytes(plan.items)
+        safe, *otherwise = (brute.is_plan(world, some, states) for some in ways)
+        what = f"{change.__name__}: {contract} {states}"
+        expect(planning.check(*brought), 0 if safe else 12, what)
+        expect(planning.open(*brought)[0], 0 if safe else 12, f"opening, {what}")
+        yield from brute.brought_kinds(world, states, safe, *otherwise)
 
 
 def tiny_deals(rng):
     for form in (LADDER, UNIT_PRICES, TABLE):
-        seen = Counter()
+        seen, brought = Counter(), Counter()
         for _ in range(TINY_DEALS):
-            seen.update(tiny_deal(rng, planning_cases.tiny_deal(rng, form)))
+            contract = planning_cases.tiny_deal(rng, form)
+            seen.update(tiny_deal(contract))
+            brought.update(set(changed_plans(rng, contract)))
         all_kinds(seen, brute.KINDS[form], TINY_DEALS)
+        all_kinds(brought, brute.BROUGHT_KINDS, TINY_DEALS)
 
 
 def tiny_bounds(rng):
@@ -327,13 +362,14 @@ def tiny_bounds(rng):
 
 
 def bounds_of_deal(rng, contract):
-    """The sums between the bounds answered are the safe ones; so are those between the unclipped bounds with 0 <= paid <= P. A
-    negative upper bound is answered as it is. Of which kinds the bounds are."""
+    """The sums between the bounds answered are the safe ones; so are those between the unclipped bounds with 0 <= paid <= P. The
+    bounds of place 0 don't tell of the start: there leaving costs count in them still. A negative upper bound is answered as it
+    is. Of which kinds the bounds are."""
     price = contract.header.price
     data = record.write(contract.header, contract.costs, contract.values, ROOM)
     order = planning_cases.some_order(rng, contract)
     world = brute.own_world(contract, planning.items_in(contract, order))
-    for place, safe in enumerate(brute.safe_sums(world)):
+    for place, safe in enumerate(brute.safe_sums(world, brute.costly_safe)):
         what = f"place {place}, order {order}: {contract}"
         answered, unclipped = planning.bounds(data, place, order), brute.unclipped_bounds(world, place)
         expect(answered, brute.bounds(world, place), f"bounds, {what}")
@@ -353,20 +389,39 @@ def middle_tables(rng):
     while left:
         contract = planning_cases.tight(rng, planning_cases.some_goods(rng, TABLE, 18, 5))
         if len(contract.costs) > 9 and 8 < contract.header.price < 25:
-            tiny_deal(rng, contract)
+            tiny_deal(contract)
+            list(changed_plans(rng, contract))
             left -= 1
 
 
 # The generated cases, where another way to the result is at hand
 
 def generated_plans(seed):
+    """Each kind of start has to come up."""
+    seen = {form: Counter() for form in brute.KINDS}
     for case in in_turn(planning_cases.plan_cases(seed), sparing_cases.sparing_cases(seed)):
         contract = record.parse(case.record)
         reply = generated_plan(case, contract)
+        if reply[0] == "steps" or reply == refused(9):
+            seen[contract.header.form].update(["deals", *starts(contract, reply)])
         if isinstance(contract, record.Contract) and contract.header.form == TABLE:
             reply = refused(2)
         for goal in sparing.GOALS:
             generated_sparing(goal, case, reply)
+    for form, some in seen.items():
+        all_kinds(some, brute.STARTS + brute.ROW_0 * (form == TABLE), some["deals"], RAREST_GENERATED)
+
+
+def starts(contract, reply):
+    """Of which kinds the start of a deal is."""
+    if reply[0] == "steps":
+        return brute.planned_kinds(world_of(contract, planning.items_in(contract, reply[2])), reply[1])
+    return brute.start_faults(world_of(contract, range(1, contract.header.count + 1))) if planned_but_for_start(contract) else set()
+
+
+def world_of(contract, items):
+    """As brute.own_world, which is slow for large deals."""
+    return brute.World(contract.header, *planning.place_totals(contract, items), planning.held_units(contract))
 
 
 def generated_plan(case, contract):
@@ -420,6 +475,12 @@ def rows_by_needs(contract):
 
 
 def can_be_planned(contract):
+    cost, value = planning_cases.whole_rises(contract)
+    return cost <= contract.header.price <= value and planned_but_for_start(contract)
+
+
+def planned_but_for_start(contract):
+    """Whether a plan would exist if leaving at the start were as costly as later on."""
     header = contract.header
     cost, value = planning_cases.whole_rises(contract)
     start_is_safe = cost - header.supplier <= header.price <= value + header.buyer
@@ -437,7 +498,32 @@ def generated_bounds(seed):
     all_kinds(seen, brute.BOUNDS_KINDS, seen["answers"])
 
 
+def generated_checks(seed):
+    """Each kind of brought plans has to come up."""
+    seen = Counter(kind for case in planning_cases.check_cases(seed) for kind in ("checks", *brought_kinds(case)))
+    all_kinds(seen, brute.BROUGHT_KINDS, seen["checks"], RAREST_GENERATED)
+
+
+def brought_kinds(case):
+    """Of which kinds the plan of a check or an opening is, if it is not refused ahead of 12."""
+    plan = case.record, case.count, case.places, case.sums, case.order
+    if planning.check(*plan) not in (0, 12):
+        return set()
+    contract = record.parse(case.record)
+    items = planning.items_in(contract, case.order)
+    if items is None:
+        return set()
+    states = [planning.state_after(k, case.places, case.sums) for k in range(1, case.count + 1)]
+    world = world_of(contract, items)
+    but_for_start = planning_cases.from_any_start(contract, items).is_plan(states)
+    by_costs = but_for_start and brute.costly_safe(world, *brute.START)
+    return brute.brought_kinds(world, states, planning.check(*plan) == 0, by_costs, but_for_start)
+
+
 def generated_sessions(seed):
+    """Each kind of brought plans has to come up where sessions are opened, too."""
+    seen = Counter(kind for case in planning_cases.session_cases(seed) if case.opens for kind in ("openings", *brought_kinds(case)))
+    all_kinds(seen, brute.BROUGHT_KINDS, seen["openings"], RAREST_GENERATED)
     for case in planning_cases.session_cases(seed):
         if len(case.area) < 10:
             short_session(case)
@@ -528,6 +614,7 @@ def main():
     seed = int(sys.argv[1]) if len(sys.argv) > 1 else 1
     rng = random.Random(seed)
     paper_cases()
+    starts_by_hand()
     case_i()
     other_cases()
     orders_by_hand()
@@ -541,6 +628,7 @@ def main():
     sparing_deals(rng)
     generated_plans(seed)
     generated_bounds(seed)
+    generated_checks(seed)
     generated_sessions(seed)
     print(f"{passed} checks passed")
 

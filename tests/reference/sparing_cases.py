@@ -19,7 +19,7 @@ MOST_ORDER = 12  # bytes of an order area, of which eight count
 
 def small_deal(rng, form):
     """Some leaving costs are about the least with which a plan exists, so that plans have many steps; others are any. Most
-    prices are well within the range in which the start is safe, so that often both sides can move first."""
+    prices are within the range in which the start is safe, so that often both sides can move first."""
     make = planning_cases.goods_maker(rng, form)
     while True:
         goods = make(rng, MOST_UNITS[form], rng.choice((1, 2, 3, 4)))
@@ -33,7 +33,8 @@ def small_deal(rng, form):
 def evenly_priced(rng, goods):
     supplier, buyer = rng.randint(0, MOST_LEAVING_COST), rng.randint(0, MOST_LEAVING_COST)
     cost, value = planning_cases.whole_rises(goods)
-    ends = sorted((cost - supplier - 1, value + buyer + 1))
+    beside = rng.choice((0, 0, 1))  # at times as far off as the leaving costs reach, and further
+    ends = sorted((cost - beside * (supplier + 1), value + beside * (buyer + 1)))
     return planning_cases.with_deal(goods, rng.randint(*ends), supplier, buyer)
 
 

@@ -65,10 +65,13 @@ pub fn check(record: &[u8], plan: Brought, order: &[u8], long_enough: bool) -> R
 }
 
 /// Goes through the steps. Bounds never fall as units are added, so a step is safe if its start allows its payment and the
-/// sum before it allows its delivery; the other states lie between.
+/// sum before it allows its delivery; the other states lie between. Where nothing has moved a rule of its own decides.
 fn follow<P: Places>(frame: &Frame, places: &P, last: usize, steps: (&[[u8; 2]], &[[u8; 4]])) -> Result<(), u32> {
     let frame = *frame;
     let mut at = places.start();
+    if !frame.safe_start(at.level) {
+        return Err(UNSAFE);
+    }
     let mut paid = 0;
     for (place, sum) in steps.0.iter().zip(steps.1) {
         let sum = u32::from_le_bytes(*sum) as i64;

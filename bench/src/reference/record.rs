@@ -49,13 +49,15 @@ pub struct Frame {
     pub high: i64,
     /// The lower bound of the last place, unclipped.
     pub last_lower: i64,
+    /// The level of the last place.
+    all: Level,
 }
 
 impl Terms {
     /// `all` is the level of the last place.
     pub fn frame(&self, all: Level) -> Frame {
         let last_lower = self.price - self.buyer;
-        Frame { price: self.price, low: last_lower - all.value, high: self.price - all.cost + self.supplier, last_lower }
+        Frame { price: self.price, low: last_lower - all.value, high: self.price - all.cost + self.supplier, last_lower, all }
     }
 }
 
@@ -75,9 +77,10 @@ impl Frame {
         self.low + level.value <= paid
     }
 
-    /// Whether nothing delivered and nothing paid is safe; `first` is the level of place 0.
+    /// Whether nothing delivered and nothing paid is safe; `first` is the level of place 0. Leaving then costs nothing, so the
+    /// price must cover what the goods still cost and be covered by what they still bring. Then 0 is within the bounds, too.
     pub fn safe_start(&self, first: Level) -> bool {
-        self.allows(0, first) && self.upper(first) >= 0
+        self.all.cost - first.cost <= self.price && self.price <= self.all.value - first.value
     }
 }
 
