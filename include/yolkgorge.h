@@ -5,6 +5,12 @@
  * state of delivery: how many units have been delivered, or, for a table, the number of its row. A plan is a list of steps;
  * each step names the place and the paid total that it goes to. Its delivery and its payment may come in either order.
  *
+ * Safe. A plan is safe if neither firm gains by leaving in any state that it passes, whichever of a step's two moves comes
+ * first. A firm that leaves bears its defection cost, but at the start, with nothing delivered and nothing paid, it bears none.
+ * So the start is safe exactly if the price is from the whole cost to the whole value, both included: the supplier's cost of
+ * the last place less that of place 0, and the buyer's value likewise. (Only row 0 of a table can have a cost or a value.)
+ * Every other state is safe exactly if the paid total lies within the bounds of its place (yolkgorge_bounds).
+ *
  * Areas. All data crosses as bytes in areas that the caller owns, each a pointer and a length in bytes; nothing is kept after
  * a call and nothing is allocated. Where a length is 0 its pointer is not followed. Areas that a call writes must not overlap
  * any other area of that call. A place takes two bytes and a sum four, little-endian (yolkgorge_place_at and
@@ -14,7 +20,7 @@
  * the work area.
  *
  * Threads. The library has no state of its own: calls on different areas may run at the same time. Stack: a call needs
- * at most about 7 KiB (seen: 7,016 bytes, planning unit prices; 6,760 for a table), and some 2 KiB more at the first call
+ * at most about 7 KiB (seen: 7,000 bytes, planning unit prices; 6,776 for a table), and some 2 KiB more at the first call
  * in a program whose dynamic linker looks up memset and memcpy only then (seen: 9,208); give a thread 32 KiB.
  */
 #ifndef YOLKGORGE_H
@@ -38,7 +44,8 @@ enum {
     YOLKGORGE_FALLING = 6,    /* a cell of a table is below that of a row with one unit less */
     YOLKGORGE_TRAILING = 7,   /* bytes follow the record: pass its own length */
     YOLKGORGE_SHORT = 8,      /* an area is too short: see the sizes below */
-    YOLKGORGE_IMPOSSIBLE = 9, /* no safe plan exists, whatever the order of the units: renegotiate the deal */
+    YOLKGORGE_IMPOSSIBLE = 9, /* no safe plan exists, whatever the order of the units: renegotiate the deal, first of all a price
+                                 below the whole cost or above the whole value (see Safe, above) */
     YOLKGORGE_UNFIT = 10,     /* the report does not fit the open step: nothing has changed, look at the plan */
     YOLKGORGE_FINISHED = 11,  /* the session is finished already */
     YOLKGORGE_UNSAFE = 12     /* the plan is not safe, does not end, or its order bytes do not name each item once */
@@ -104,13 +111,14 @@ int64_t yolkgorge_plan_fewest_moves(const uint8_t *record, size_t record_len, ui
                                     uint8_t *sums, size_t sums_len, uint8_t *order, size_t order_len);
 
 /* Checks a plan of `count` steps from wherever it comes. Answers 0 if it is a safe plan of the deal along the order that
- * its order bytes name, else the number of a refusal (1 to 8, 12). */
+ * its order bytes name, its start included, else the number of a refusal (1 to 8, 12). */
 uint32_t yolkgorge_check(const uint8_t *record, size_t record_len, size_t count, const uint8_t *places, size_t places_len,
                          const uint8_t *sums, size_t sums_len, const uint8_t *order, size_t order_len);
 
-/* The bounds of a place: the paid total is safe there from `lower` to `upper`, both included. Answers 0 and stores them in
- * the first sixteen bytes of `bounds`, lower then upper, each a signed 64-bit number in two's complement, little-endian;
- * else answers the number of a refusal (1 to 8, 12).
+/* The bounds of a place: the paid total is safe there from `lower` to `upper`, both included; only whether nothing paid at
+ * place 0 is safe, the start, they do not tell (see Safe, above). Answers 0 and stores them in the first sixteen bytes of
+ * `bounds`, lower then upper, each a signed 64-bit number in two's complement, little-endian; else answers the number of a
+ * refusal (1 to 8, 12).
  *   lower: the price, less the value of what is not delivered yet, less the buyer's defection cost; clipped to at least 0
  *   upper: the price, less the cost of what is not delivered yet, plus the supplier's defection cost; clipped to at most the
  *          price. A negative one stays negative: no paid total is safe there, nor at the start, and the deal has no plan (9). */
