@@ -135,7 +135,7 @@ module _ (s : Sides) (us cs vs : List ℕ) (n : ℕ) (places sums : List ℕ) wh
 
       -- no plan sets out from an unsafe start
       pub unsafe-start : not r ≡ true → Judges d (planIn n places sums) (refused 12)
-      unsafe-start y = none (λ p. subst T (sym (start-test .1 (plan-start d (rising) _ p)) ∙ not-true r y) tt)
+      unsafe-start y = none (λ p. subst T (sym (start-test .1 (plan-start d rising _ p)) ∙ not-true r y) tt)
 
       pub started : not r ≡ false → Safe d 0 0
       started y = start-test .0 (not-false r y)
@@ -192,7 +192,7 @@ module _ (s : Sides) (us cs vs : List ℕ) (n : ℕ) (places sums : List ℕ) wh
             -- the test of the step
             tested : (r ≡ true) ↔ Step d (record { place = row; paid = paid }) (record { place = next; paid = sum })
             tested =
-                let q = step↔ d (rising) (g .start-safe) (record { place = row; paid = paid }) (record { place = next; paid = sum }) (omega (arith, costs-rows s us cs vs (b .valid))) in
+                let q = step↔ d rising (g .start-safe) (record { place = row; paid = paid }) (record { place = next; paid = sum }) (omega (arith, costs-rows s us cs vs (b .valid))) in
                 let f : r ≡ stepTest (holdsRow us row next) (boundsAt d row) (boundsAt d next) paid sum (s .price) =
                 e ∙ rw (row-bounds-are s us cs vs (b .valid) row, row-bounds-are s us cs vs (b .valid) next) in
                 (λ y. q .0 (sym f ∙ y), λ y. f ∙ q .1 y)

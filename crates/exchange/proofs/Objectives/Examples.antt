@@ -11,11 +11,11 @@ use Rattle.exchange.specs.Objectives.{rises, count, pays, delivers, move
 abbrev at : ℕ → ℕ → State
 at b q = record { place = b; paid = q }
 
--- two units of cost 4 and value 6, price 10
+-- two units of cost 4 and value 6
 abbrev two : ℕ → ℕ → ℕ → Deal
 two price supplier buyer = ladder (record { price = price; supplier = supplier; buyer = buyer }) (4 ∷ 4 ∷ []) (6 ∷ 6 ∷ [])
 
--- leaving costs of 5: the rule makes two steps of two moves each; a delivery first plan-for a payment, a payment first plan-for a delivery
+-- P 10, leaving costs of 5: the rule makes two steps of two moves each; a delivery first saves a payment, a payment first saves a delivery
 abbrev free : Deal
 free = two 10 5 5
 
@@ -37,11 +37,11 @@ counts : (count pays start (at 1 0 ∷ at 1 10 ∷ at 2 10 ∷ []) ≡ 1) × (co
 unfolding unclippedUpperOf unclippedLowerOf upperOf lowerOf along reach rule ruled rises
 counts = (refl, refl, refl)
 
--- case A: nothing can be delivered first, so that step is dropped; case C: nothing can be paid first
+-- case A: nothing can be delivered first, so that step is dropped; where P is the whole cost and cs is 0, nothing can be paid first
 dropped-delivery : opening (deliveryOnly (two 10 1 3)) [] ≡ []
 unfolding unclippedUpperOf unclippedLowerOf upperOf lowerOf along reach rule rises deliveryOnly opening
 dropped-delivery = refl
 
-dropped-payment : opening (paymentOnly (two 7 1 3)) [] ≡ []
+dropped-payment : opening (paymentOnly (two 8 0 4)) [] ≡ []
 unfolding unclippedUpperOf unclippedLowerOf upperOf lowerOf along reach rule rises paymentOnly opening
 dropped-payment = refl
