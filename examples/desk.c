@@ -16,22 +16,6 @@ static uint8_t work[YOLKGORGE_MOST_WORK_SIZE];
 static size_t length;
 static size_t count;
 
-/* How many bytes of places and sums the desk lends. Most deals have few units and planning zeroes all that is lent, so it begins
- * with room for 1,000. */
-static size_t places_len, sums_len;
-
-static int64_t plan_with_room_for(size_t units) {
-    places_len = YOLKGORGE_PLACES_SIZE(units);
-    sums_len = YOLKGORGE_SUMS_SIZE(units);
-    return yolkgorge_plan(record, length, places, places_len, sums, sums_len, order, sizeof order, work, sizeof work);
-}
-
-/* Plans the deal. A larger one than the areas have room for gets 8 with nothing changed, and is planned again with room for all. */
-static int64_t plan_deal(void) {
-    int64_t answer = plan_with_room_for(1000);
-    return answer == -YOLKGORGE_SHORT ? plan_with_room_for(YOLKGORGE_MOST_UNITS) : answer;
-}
-
 static int64_t signed_at(const uint8_t *bytes) {
     uint64_t n = 0;
     int64_t result;
@@ -70,7 +54,7 @@ static const struct {
 static void show_offer(const char *name, sparing_planner *plan) {
     static uint8_t own_places[sizeof places], own_sums[sizeof sums], own_order[sizeof order];
     uint32_t place = 0, paid = 0, payments = 0, deliveries = 0;
-    int64_t answer = plan(record, length, own_places, places_len, own_sums, sums_len, own_order, sizeof own_order);
+    int64_t answer = plan(record, length, own_places, sizeof own_places, own_sums, sizeof own_sums, own_order, sizeof own_order);
     for (size_t k = 0; (int64_t)k < answer; k++) {
         uint32_t next_place = yolkgorge_place_at(own_places, k), next_paid = yolkgorge_sum_at(own_sums, k);
         payments += next_paid > paid;
@@ -86,7 +70,8 @@ static void show_offer(const char *name, sparing_planner *plan) {
 
 /* A report, and what the ledger says to it. */
 static uint32_t report(uint8_t *session, uint32_t side, uint32_t number) {
-    uint32_t refusal = yolkgorge_report(session, YOLKGORGE_SESSION_SIZE, count, places, places_len, sums, sums_len, side, number);
+    uint32_t refusal =
+        yolkgorge_report(session, YOLKGORGE_SESSION_SIZE, count, places, sizeof places, sums, sizeof sums, side, number);
     printf("  %s %" PRIu32 ": ", side == YOLKGORGE_DELIVERY ? "delivered to" : "paid", number);
     if (refusal)
         printf("refused %" PRIu32 "\n", refusal);
@@ -99,7 +84,8 @@ static uint32_t report(uint8_t *session, uint32_t side, uint32_t number) {
 static int carry_out(void) {
     uint8_t session[YOLKGORGE_SESSION_SIZE];
     uint32_t place = 0, paid = 0;
-    uint32_t refusal = yolkgorge_open(session, sizeof session, record, length, count, places, places_len, sums, sums_len, order, sizeof order);
+    uint32_t refusal = yolkgorge_open(session, sizeof session, record, length, count, places, sizeof places, sums, sizeof sums, order,
+                                      sizeof order);
     if (refusal) return 1;
     printf("session\n");
     if (report(session, YOLKGORGE_DELIVERY, UINT32_MAX) != YOLKGORGE_UNFIT) return 1;
@@ -124,7 +110,7 @@ int main(int argc, char **argv) {
     }
     length = fread(record, 1, sizeof record, file);
     fclose(file);
-    answer = plan_deal();
+    answer = yolkgorge_plan(record, length, places, sizeof places, sums, sizeof sums, order, sizeof order, work, sizeof work);
     if (answer < 0) {
         printf("refused %" PRId64 "\n", -answer);
         if (answer == -YOLKGORGE_IMPOSSIBLE) show_unsafe_start();

@@ -36,15 +36,14 @@ extern "C" {
 /* Refusals, and what to do about them. */
 enum {
     YOLKGORGE_TRUNCATED = 1,  /* the record ends inside a field: pass the whole record */
-    YOLKGORGE_MAP = 2,        /* its bit map names no form, two forms, or an unknown bit, or has bit 7 without bit 4: not a record of this
-                                 version; or it is a table, where a plan with fewest payments, deliveries or moves is asked for */
-    YOLKGORGE_VALUE = 3,      /* a price or defection cost that is stated is zero, a bit stands beyond a table's last row, or bit 7
-                                 stands (units in two bytes) though no item has more than 255: write the record anew */
+    YOLKGORGE_MAP = 2,        /* its bit map names no form, two forms, or an unknown bit: not a record of this version;
+                                 or it is a table, where a plan with fewest payments, deliveries or moves is asked for */
+    YOLKGORGE_VALUE = 3,      /* a price or defection cost that is stated is zero, or a bit stands beyond a table's last row */
     YOLKGORGE_LIMIT = 4,      /* an amount or a total is above 1,000,000,000: state it in larger coins */
-    YOLKGORGE_RANGE = 5,      /* a count of units, items or rows is out of range (sizes, below), or a place is above the last one */
+    YOLKGORGE_RANGE = 5,      /* a count of units, items or rows is out of range, or a place is above the last one */
     YOLKGORGE_FALLING = 6,    /* a cell of a table is below that of a row with one unit less */
     YOLKGORGE_TRAILING = 7,   /* bytes follow the record: pass its own length */
-    YOLKGORGE_SHORT = 8,      /* an area is too short for this deal: see the sizes below; longer areas may do */
+    YOLKGORGE_SHORT = 8,      /* an area is too short: see the sizes below */
     YOLKGORGE_IMPOSSIBLE = 9, /* no safe plan exists, whatever the order of the units: renegotiate the deal, first of all a price
                                  below the whole cost or above the whole value (see Safe, above) */
     YOLKGORGE_UNFIT = 10,     /* the report does not fit the open step: nothing has changed, look at the plan */
@@ -52,16 +51,9 @@ enum {
     YOLKGORGE_UNSAFE = 12     /* the plan is not safe, does not end, or its order bytes do not name each item once */
 };
 
-/* Sizes, by U, all units of the deal, and by the rows of a table. U is at most 1,000 for a ladder and 65,535 for unit prices; a
- * table has at most 128 rows and U at most 127. Areas for YOLKGORGE_MOST_UNITS are enough for every deal: 262,142 bytes of
- * places and 524,284 of sums.
- *
- * Shorter areas. Planning zeroes what lies behind the plan, to the end of each area, so lend no more than your deals need.
- * Areas for 1,000 units hold every ladder, every table, and unit prices of up to 1,000. A larger deal gets YOLKGORGE_SHORT, and
- * nothing has changed. That says nothing about the deal, not even whether it has a plan: plan it again with areas for
- * YOLKGORGE_MOST_UNITS (examples/desk.c does), or, if the desk's areas are fixed, tell the customer that this desk takes deals
- * of at most so many units. A program built when YOLKGORGE_MOST_UNITS was 1,000 is such a desk, and goes on as before. */
-#define YOLKGORGE_MOST_UNITS 65535
+/* Sizes, by U, all units of the deal, and by the rows of a table. These are enough for every deal:
+ * U is at most 1,000 for a ladder and for unit prices; a table has at most 128 rows and U at most 127. */
+#define YOLKGORGE_MOST_UNITS 1000
 #define YOLKGORGE_MOST_STEPS(units) (2 * (size_t)(units) + 1)
 #define YOLKGORGE_PLACES_SIZE(units) (2 * YOLKGORGE_MOST_STEPS(units))
 #define YOLKGORGE_SUMS_SIZE(units) (4 * YOLKGORGE_MOST_STEPS(units))

@@ -10,7 +10,6 @@ import argparse
 import sys
 import tempfile
 from collections import Counter
-from itertools import chain
 from pathlib import Path
 
 sys.path.insert(0, str(Path(__file__).resolve().parent / "reference"))
@@ -27,17 +26,16 @@ from record_cases import in_turn  # noqa: E402
 EXAMPLES = Path(__file__).resolve().parent.parent / "examples/records"
 # the examples and what the paper says of them: a refusal, or the step count
 PLANNED = {"case-a": 5, "case-b": -9, "case-c": -9, "case-d": -9, "case-e": 1, "case-h": -9, "case-k-short": -1, "case-k-long": -7,
-           "ladder-1001": -5, "total-over": -4, "stock-ladder": 17, "wide-unneeded": -3}
+           "ladder-1001": -5, "total-over": -4, "stock-ladder": 17}
 # the same for fewest payments, deliveries and moves, worked out by hand
 SPARED = {"case-a": (5, 5, 5), "case-b": (-9,) * 3, "case-c": (-9,) * 3, "case-e": (1, 1, 1), "case-f": (-2,) * 3, "case-g": (4, 5, 4),
           "case-h": (-9,) * 3, "case-k-short": (-1,) * 3, "case-k-long": (-7,) * 3, "table-3": (-2,) * 3, "total-largest": (2, 2, 2),
-          "two-rules": (7, 8, 7), "seats-4000": (13, 13, 13), "wide-unneeded": (-3,) * 3}
+          "two-rules": (7, 8, 7)}
 # examples for which an order or rows are chosen: the order and the steps
 CASE_F = (), [(1, 5), (1, 10), (4, 10), (4, 22), (9, 22)]
 CHOSEN = {"case-f": CASE_F, "table-3": CASE_F, "case-g": ((1, 2), [(1, 1), (1, 6), (2, 6), (2, 8)]),
           "two-orders": ((2, 1), [(1, 1), (2, 1), (2, 3)]), "first-row": ((), [(1, 2), (1, 4), (3, 4), (3, 6)]),
-          "two-rules": ((2, 1, 3, 4), [(1, 1), (2, 4), (4, 6), (5, 10), (7, 11), (7, 13), (8, 13)]),
-          "seats-4000": ((1,), list(examples.SEATS_STEPS))}
+          "two-rules": ((2, 1, 3, 4), [(1, 1), (2, 4), (4, 6), (5, 10), (7, 11), (7, 13), (8, 13)])}
 # examples that the paper only says are read: the longest ladder, and the greatest totals
 READ = ("ladder-1000", "total-largest")
 # brought plans: the one that the published method prints for its table 3, and case C's of old, also with a first step that stays
@@ -45,9 +43,8 @@ CASE_C = [(1, 0), (1, 4), (2, 4), (2, 7)]
 BROUGHT = (("table-3", [(2, 5), (3, 14), (4, 18), (4, 22), (9, 22)], 0), ("case-c", CASE_C, 12), ("case-c", [(0, 0), *CASE_C], 12))
 # the answers that each entry can give; all must come up
 PLAN_ANSWERS = *range(-9, 0), "made"
-ROOM = bytes(16_002), bytes(32_004), bytes(8)  # enough for the plan of every example
-ANSWERS = {"plan": (*PLAN_ANSWERS, "made, of 131071 steps"), "bounds": (*range(9), 12), "check": (*range(9), 12),
-           "open": (*range(9), 12), "report": (0, 8, 10, 11), "finished": (0, 1, 8)}
+ANSWERS = {"plan": PLAN_ANSWERS, "bounds": (*range(9), 12), "check": (*range(9), 12), "open": (*range(9), 12),
+           "report": (0, 8, 10, 11), "finished": (0, 1, 8)}
 ANSWERS |= {f"fewest {goal}": (*PLAN_ANSWERS, "-2 for a table") for goal in sparing.GOALS}
 
 
@@ -66,7 +63,7 @@ def example(name):
 
 def planned(lib, record):
     """The answer, and the areas of places, sums and order."""
-    answer, _, after = lib.plan(record, *ROOM, bytes(40_000))
+    answer, _, after = lib.plan(record, bytes(9_000), bytes(9_000), bytes(8), bytes(40_000))
     return answer, after[:3]
 
 
@@ -80,7 +77,7 @@ def example_plans(lib):
         same(name, "the order and the plan", (order, got), (planning.order_bytes(items), steps))
         yield "example"
     for name, wanted in SPARED.items():
-        answers = [lib.plan_fewest(goal, example(name), *ROOM)[0] for goal in sparing.GOALS]
+        answers = [lib.plan_fewest(goal, example(name), bytes(9_000), bytes(9_000), bytes(8))[0] for goal in sparing.GOALS]
         same(name, "the answers for fewest payments, deliveries, moves", answers, list(wanted))
         yield "example"
     for name in READ:
@@ -116,14 +113,11 @@ def two_orders(lib):
 
 def plans(lib, seed, scale):
     """Each case through all four planners: the work area is the first one's only."""
-    cases = in_turn(planning_cases.plan_cases(seed, scale), sparing_cases.sparing_cases(seed, scale))
-    for case in chain(cases, planning_cases.longest_plans(seed)):
+    for case in in_turn(planning_cases.plan_cases(seed, scale), sparing_cases.sparing_cases(seed, scale)):
         areas = (case.places, case.sums, case.order)
         reply = planning.plan(case.record, *map(len, areas), len(case.work))
         wanted = planning.areas_after(case.record, reply, *areas, case.work)
         yield f"plan {planner(case, 'planning', lib.plan(case.record, *areas, case.work), reply, wanted)}"
-        if reply[0] == "steps" and len(reply[1]) == planning_cases.MOST_STEPS:
-            yield f"plan made, of {planning_cases.MOST_STEPS} steps"
         for goal in sparing.GOALS:
             reply = sparing.plan(goal, case.record, *map(len, areas))
             wanted = sparing.areas_after(case.record, reply, *areas)
@@ -158,7 +152,7 @@ def bounds(lib, seed, scale):
 
 
 def checks(lib, seed, scale):
-    for case in chain(planning_cases.check_cases(seed, scale), planning_cases.longest_checks(seed)):
+    for case in planning_cases.check_cases(seed, scale):
         brought = (case.record, case.count, case.places, case.sums, case.order)
         wanted = planning.check(*brought)
         same(case.kind, "the answer to a check", lib.check(*brought), wanted, case)
@@ -166,7 +160,7 @@ def checks(lib, seed, scale):
 
 
 def sessions(lib, seed, scale):
-    for case in chain(planning_cases.session_cases(seed, scale), planning_cases.longest_sessions(seed)):
+    for case in planning_cases.session_cases(seed, scale):
         area, plan = case.area, (case.count, case.places, case.sums)
         if case.opens:
             number, wanted = planning.open_in(area, case.record, *plan, case.order)

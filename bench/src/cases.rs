@@ -13,8 +13,8 @@ pub enum Risk {
     Middle,
     /// One unit at a time, and its payment apart: 2U + 1 steps.
     Small,
-    /// As small, and a unit is too dear: impossible. It is the last unit of a ladder, each unit of the sixth of eight items or
-    /// of the only one, and in a table whichever unit comes half-way, so that a search from either end gets half the way.
+    /// As small, and a unit is too dear: impossible. It is the last unit of a ladder, each unit of the sixth of eight items,
+    /// and in a table whichever unit comes half-way, so that a search from either end gets half the way.
     None,
 }
 
@@ -55,16 +55,10 @@ pub fn items(units: usize, risk: Risk) -> Deal {
         let count = units * (item + 1) / 8 - units * item / 8;
         let dear = risk == Risk::None && item == 5;
         let each = if dear { TOO_DEAR } else { amount(item) };
-        items.push((count as u16, each, each));
+        items.push((count as u8, each, each));
     }
     let total = items.iter().map(|item| item.0 as u32 * item.1).sum();
     deals::items(terms(total, risk), &items)
-}
-
-/// So many units of one item.
-pub fn seats(units: u16, risk: Risk) -> Deal {
-    let each = if risk == Risk::None { TOO_DEAR } else { amount(0) };
-    deals::items(terms(units as u32 * each, risk), &[(units, each, each)])
 }
 
 /// Cost and value of each row: each unit adds the amount of its item.

@@ -2,9 +2,8 @@
 //! byte of every area must be the same.
 
 use crate::brought::{some_order, some_plan, Brought};
-use crate::damage::damaged;
-use crate::deals::{Areas, Deal, ITEMS, WIDE};
-use crate::known;
+use crate::damage::damage;
+use crate::deals::{Areas, Deal};
 use crate::plain;
 use crate::program::{Program, LIBRARY, REFERENCE, SPARING};
 use crate::random::Random;
@@ -12,109 +11,44 @@ use crate::sample::{self, Sample};
 use std::collections::BTreeMap;
 use std::fmt::Debug;
 
-/// How many disagreements are printed.
+/// How many disagreements are printed whole.
 const SHOWN: usize = 20;
-/// So much of a result is printed, from shortly before the first difference on if there is more.
-const SHOWN_TEXT: usize = 4_000;
 
-/// Among so many records each kind has to come up.
-const ENOUGH: u64 = 20_000;
-/// What is counted beside the answers.
-const KINDS: [&str; 27] = [
-    "brought, more than 2,001 steps, safe",
-    "brought, more than 65,536 steps, safe",
-    "brought, start alone not safe",
-    "brought, start alone not safe, first step stays",
-    "planned in more than 2,001 steps",
-    "planned in more than 65,536 steps",
-    "planned, (0, q) safe by defection costs only",
-    "planned, (a, 0) safe by defection costs only",
-    "planned, 65,535 units",
-    "planned, narrow record of more than 1,000 units",
-    "planned, price at the lower end",
-    "planned, price at the upper end",
-    "planned, price below the last row's cost",
-    "planned, wide record",
-    "refused 1, wide record",
-    "refused 2, bit 7 without bit 4",
-    "refused 3, bit 7 where no item needs it",
-    "refused 3, bit 7 where no item needs it, bytes after the last field",
-    "refused 5, more than 65,535 units",
-    "refused 7, wide record",
-    "refused 8, wide record",
-    "refused 9, wide record",
-    "reported, more than 65,536 steps passed",
-    "start alone not safe, nor saved by defection costs",
-    "start alone not safe, price not above the last row's value",
-    "start alone not safe, price too high",
-    "start alone not safe, price too low",
-];
-
+#[derive(Default)]
 struct Tally {
     records: u64,
     calls: u64,
     plans: u64,
     searched: u64,
-    /// How many answers are not as they are known to be.
-    wrong: usize,
     disagreements: usize,
     /// How often the library refused a call with each number; at 0, how often it did not refuse.
     answers: [u64; 13],
     /// How often the library gave each answer to whether a session is finished.
     finished: BTreeMap<u32, u64>,
-    /// How often each kind came up.
-    kinds: BTreeMap<&'static str, u64>,
+    /// How many deals and brought plans of each kind there were, by their starts.
+    starts: BTreeMap<&'static str, u64>,
 }
 
-/// Compares `count` records; true if all agree, and if each kind came up among enough of them.
+/// Compares `count` records; true if all agree.
 pub fn run(count: u64) -> bool {
     let mut random = Random::new(0x005e_ed0f_a11d_ea15);
-    let mut tally = Tally::new();
-    tally.hold_known();
+    let mut tally = Tally::default();
     for _ in 0..count {
         let sample = sample::any(&mut random);
+        let mut record = sample.deal.record.clone();
         let whole = !random.once_in(3);
-        let own = || (sample.deal.clone(), sample.deal.record.clone());
-        let (deal, record) = if whole { own() } else { damaged(&mut random, &sample) };
+        if !whole {
+            damage(&mut random, &mut record);
+        }
         tally.records += 1;
-        let mut case = Case { tally: &mut tally, random: &mut random, record: &record, deal: &deal };
+        let mut case = Case { tally: &mut tally, random: &mut random, record: &record, deal: &sample.deal };
         case.all(whole.then_some(&sample));
     }
     tally.print();
-    tally.wrong == 0 && tally.disagreements == 0 && (count < ENOUGH || tally.complete())
+    tally.disagreements == 0
 }
 
 impl Tally {
-    fn new() -> Self {
-        Tally {
-            records: 0,
-            calls: 0,
-            plans: 0,
-            searched: 0,
-            wrong: 0,
-            disagreements: 0,
-            answers: [0; 13],
-            finished: BTreeMap::new(),
-            kinds: KINDS.iter().map(|kind| (*kind, 0)).collect(),
-        }
-    }
-
-    /// Holds both programs to the answers that are known.
-    fn hold_known(&mut self) {
-        let wrong = known::wrong();
-        wrong.iter().for_each(|answer| println!("WRONG {answer}"));
-        self.wrong = wrong.len();
-    }
-
-    /// Whether each answer and each kind came up; prints those that did not.
-    fn complete(&self) -> bool {
-        let kinds = self.kinds.iter().map(|(kind, count)| (kind.to_string(), *count));
-        let answers = (0..).map(|answer| format!("answer {answer}")).zip(self.answers);
-        let missing: Vec<_> = kinds.chain(answers).filter(|(_, count)| *count == 0).collect();
-        missing.iter().for_each(|(kind, _)| println!("NEVER {kind}"));
-        missing.is_empty()
-    }
-
     fn print(&self) {
         println!("records {}, of these planned {}", self.records, self.plans);
         println!("calls compared {}", self.calls);
@@ -123,8 +57,7 @@ impl Tally {
         let refusals: Vec<String> = numbers.map(|(number, count)| format!("{number}: {count}")).collect();
         println!("refusals by number {}", refusals.join(", "));
         println!("answers to whether a session is finished {:?}", self.finished);
-        self.kinds.iter().for_each(|(kind, count)| println!("{kind}: {count}"));
-        println!("known answers not met {}", self.wrong);
+        self.starts.iter().for_each(|(kind, count)| println!("{kind} {count}"));
         println!("disagreements {}", self.disagreements);
     }
 }
@@ -141,27 +74,22 @@ impl Case<'_> {
     /// `sample` is what the record says, unless it is damaged.
     fn all(&mut self, sample: Option<&Sample>) {
         let (answer, mut planned) = self.plan("plan", self.deal.areas(0), Program::plan_into);
-        self.note_plan(answer);
         let mut steps = answer.max(0) as usize;
         self.tally.plans += (steps > 0) as u64;
         if let Some(sample) = sample {
             self.search(sample, answer);
-            if steps > 0 && sample.is_line() {
-                self.retrace(sample, &planned, &planned.steps(steps));
-            }
             if steps == 0 {
                 // No order was left, and with a wrong one nothing would be answered of deals that have no plan.
                 planned.order = sample.order();
                 steps = self.bring(sample, &mut planned);
             }
             if steps > 0 {
-                let kinds = plain::start_kinds(sample, &planned.order, &planned.steps(steps));
-                kinds.into_iter().for_each(|kind| self.note(kind));
+                let states: Vec<_> = (0..steps).map(|step| (planned.place(step) as usize, planned.sum(step) as i64)).collect();
+                plain::start_kinds(sample, &planned.order, &states).into_iter().for_each(|kind| self.note(kind));
             }
         }
         let lent = self.varied();
-        let (answer, _) = self.plan("plan", lent, Program::plan_into);
-        self.note_plan(answer);
+        self.plan("plan", lent, Program::plan_into);
         self.sparing(sample);
         self.bounds(&planned);
         for _ in 0..3 {
@@ -179,49 +107,7 @@ impl Case<'_> {
     }
 
     fn note(&mut self, kind: &'static str) {
-        *self.tally.kinds.get_mut(kind).expect("a kind that is listed") += 1;
-    }
-
-    /// Counts a planning, by the bits and the units of its record.
-    fn note_plan(&mut self, answer: i64) {
-        let bits = self.record.first().map_or(0, |byte| *byte as u16) & (ITEMS | WIDE);
-        let (wide, planned) = (bits == (ITEMS | WIDE), answer > 0);
-        // The units are known where the record is the deal's own.
-        let units = if self.record == self.deal.record { self.deal.units } else { 0 };
-        let needless = wide && answer == -3 && !self.has_zero_term();
-        let longer = self.record.len() > self.deal.record.len() && self.record.starts_with(&self.deal.record);
-        let kinds = [
-            (answer > 2_001, "planned in more than 2,001 steps"),
-            (answer > 65_536, "planned in more than 65,536 steps"),
-            (planned && units == 65_535, "planned, 65,535 units"),
-            (planned && bits == ITEMS && units > 1_000, "planned, narrow record of more than 1,000 units"),
-            (planned && wide, "planned, wide record"),
-            (answer == -1 && wide, "refused 1, wide record"),
-            (answer == -2 && bits == WIDE, "refused 2, bit 7 without bit 4"),
-            (needless, "refused 3, bit 7 where no item needs it"),
-            (needless && longer, "refused 3, bit 7 where no item needs it, bytes after the last field"),
-            (answer == -5 && units > 65_535, "refused 5, more than 65,535 units"),
-            (answer == -7 && wide, "refused 7, wide record"),
-            (answer == -8 && wide, "refused 8, wide record"),
-            (answer == -9 && wide, "refused 9, wide record"),
-        ];
-        kinds.into_iter().filter(|(is, _)| *is).for_each(|(_, kind)| self.note(kind));
-    }
-
-    /// Whether a standing price or defection cost is 0, the other cause of refusal 3 for unit prices.
-    fn has_zero_term(&self) -> bool {
-        let count = (self.record[0] & 7).count_ones() as usize;
-        self.record[2..].as_chunks::<4>().0.iter().take(count).any(|term| *term == [0; 4])
-    }
-
-    /// Counts a brought plan of many steps that is safe.
-    fn note_long(&mut self, plan: &Brought, answer: u32) {
-        if answer == 0 && plan.count > 2_001 {
-            self.note("brought, more than 2,001 steps, safe");
-        }
-        if answer == 0 && plan.count > 65_536 {
-            self.note("brought, more than 65,536 steps, safe");
-        }
+        *self.tally.starts.entry(kind).or_default() += 1;
     }
 
     /// Counts a brought plan that was refused for its start alone, and whether its first step stays there.
@@ -249,13 +135,8 @@ impl Case<'_> {
     fn disagree<T: Debug>(&mut self, what: impl Debug, results: [(&str, T); 2]) {
         self.tally.disagreements += 1;
         if self.tally.disagreements <= SHOWN {
-            println!("DISAGREE {:.SHOWN_TEXT$}", format!("{what:?}"));
-            let [ours, theirs] = results.map(|(who, result)| (who, format!("{result:?}")));
-            let same = ours.1.bytes().zip(theirs.1.bytes()).take_while(|(ours, theirs)| ours == theirs).count();
-            for (who, text) in [ours, theirs] {
-                let from = if text.len() > SHOWN_TEXT { same.saturating_sub(100) } else { 0 };
-                println!("  {who}: {:.SHOWN_TEXT$}", text.get(from..).unwrap_or_default());
-            }
+            println!("DISAGREE {what:?}");
+            results.iter().for_each(|(who, result)| println!("  {who}: {result:?}"));
             println!("  record: {}", self.record.iter().map(|byte| format!("{byte:02x}")).collect::<String>());
         }
     }
@@ -299,7 +180,7 @@ impl Case<'_> {
         for area in areas.each_mut() {
             let length = match self.random.below(12) {
                 0 => self.random.below(area.len() as u64 + 1) as usize,
-                1 => area.len().saturating_sub(self.random.within(1, 4) as usize),
+                1 => area.len().saturating_sub(1),
                 2..=5 => area.len() + self.random.below(12) as usize,
                 _ => area.len(),
             };
@@ -319,15 +200,6 @@ impl Case<'_> {
         }
     }
 
-    /// Holds a plan along one order to the definition, place by place.
-    fn retrace(&mut self, sample: &Sample, planned: &Areas, steps: &[(usize, i64)]) {
-        self.tally.searched += 1;
-        let expected = plain::walk(sample, &planned.order).unwrap_or_default();
-        if steps != expected {
-            self.disagree("steps", [("both", steps), ("plain walk", &expected)]);
-        }
-    }
-
     /// Holds the moves of a plan to a plain search, where the deal is small.
     fn search_sparing(&mut self, sample: &Sample, which: usize, steps: usize, areas: &Areas) {
         let Some(fewest) = plain::sparing(sample, &areas.order) else {
@@ -343,9 +215,7 @@ impl Case<'_> {
 
     fn bounds(&mut self, planned: &Areas) {
         let last = self.deal.last_place() as u64;
-        let some = self.random.below(last + 1);
-        // A place and 65,536 more is no place, though its lowest two bytes are one.
-        for place in [0, last, last + 1, self.random.below(last + 3), some, some + 65_536, u64::MAX] {
+        for place in [0, last, last + 1, self.random.below(last + 3), self.random.below(last + 1), u64::MAX] {
             let order = some_order(self.random, planned);
             let length = if self.random.once_in(8) { self.random.below(20) } else { 16 } as usize;
             let record = self.record;
@@ -363,7 +233,6 @@ impl Case<'_> {
         let call = |program: &Program| (program.check)(record, count, &plan.places, &plan.sums, &plan.order);
         let answer = self.both(("check", &plan), call);
         self.seen(answer);
-        self.note_long(&plan, answer);
         self.note_start(sample, planned, &plan, answer);
     }
 
@@ -378,12 +247,8 @@ impl Case<'_> {
         });
         self.seen(answer);
         self.note_start(sample, planned, &plan, answer);
-        self.note_long(&plan, answer);
         if answer != 0 {
             session = self.some_session(plan.count);
-        } else if plan.count > 100 && self.random.once_in(2) {
-            // The reports below do not lead there from the start.
-            session[..8].copy_from_slice(&self.random.below(plan.count as u64).to_le_bytes());
         }
         self.finished(&session, plan.count);
         for _ in 0..40.min(3 * plan.count + 4) {
@@ -430,9 +295,6 @@ impl Case<'_> {
             ((program.report)(&mut after, count, &plan.places, &plan.sums, side, number), after)
         });
         self.seen(answer);
-        if answer == 0 && passed > 65_536 {
-            self.note("reported, more than 65,536 steps passed");
-        }
         self.finished(&after, count);
         after
     }

@@ -8,12 +8,6 @@ pub struct Terms {
     pub buyer: u32,
 }
 
-/// Bits of the map: the forms, and units fields of two bytes.
-pub const LADDER: u16 = 1 << 3;
-pub const ITEMS: u16 = 1 << 4;
-pub const TABLE: u16 = 1 << 5;
-pub const WIDE: u16 = 1 << 7;
-
 /// A record, with the units and the rows (0 unless it is a table) that its areas are measured by.
 #[derive(Clone)]
 pub struct Deal {
@@ -70,11 +64,6 @@ impl Areas {
         u32::from_le_bytes([self.sums[at], self.sums[at + 1], self.sums[at + 2], self.sums[at + 3]])
     }
 
-    /// The first steps, each a place and a sum.
-    pub fn steps(&self, count: usize) -> Vec<(usize, i64)> {
-        (0..count).map(|step| (self.place(step) as usize, self.sum(step) as i64)).collect()
-    }
-
     /// Stores steps in the first entries.
     pub fn put(&mut self, steps: &[(usize, i64)]) {
         for (at, (place, sum)) in steps.iter().enumerate() {
@@ -97,10 +86,10 @@ impl Areas {
     }
 }
 
-/// The map with the bits of a form, then the terms that are not 0.
+/// The map with the bit of a form, then the terms that are not 0.
 fn start(terms: Terms, form: u16) -> Vec<u8> {
     let amounts = [terms.price, terms.supplier, terms.buyer];
-    let mut map = form;
+    let mut map = 1 << form;
     for (bit, amount) in amounts.iter().enumerate() {
         map |= ((*amount != 0) as u16) << bit;
     }
@@ -112,7 +101,7 @@ fn start(terms: Terms, form: u16) -> Vec<u8> {
 }
 
 pub fn ladder(terms: Terms, rises: &[(u32, u32)]) -> Deal {
-    let mut record = start(terms, LADDER);
+    let mut record = start(terms, 3);
     record.extend((rises.len() as u16).to_le_bytes());
     for (cost, value) in rises {
         record.extend(cost.to_le_bytes());
@@ -121,20 +110,12 @@ pub fn ladder(terms: Terms, rises: &[(u32, u32)]) -> Deal {
     Deal { record, units: rises.len(), rows: 0 }
 }
 
-/// Units of an item, cost of a unit, value of a unit.
-pub type Item = (u16, u32, u32);
-
-/// Units fields have two bytes if some item needs them.
-pub fn items(terms: Terms, items: &[Item]) -> Deal {
-    items_in(terms, items, items.iter().any(|item| item.0 > 255))
-}
-
-/// The same with units fields of two bytes, needed or not, or of one.
-pub fn items_in(terms: Terms, items: &[Item], wide: bool) -> Deal {
-    let mut record = start(terms, if wide { ITEMS | WIDE } else { ITEMS });
+/// Items are units, cost of a unit, value of a unit.
+pub fn items(terms: Terms, items: &[(u8, u32, u32)]) -> Deal {
+    let mut record = start(terms, 4);
     record.push(items.len() as u8);
     for (units, cost, value) in items {
-        record.extend(&units.to_le_bytes()[..1 + wide as usize]);
+        record.push(*units);
         record.extend(cost.to_le_bytes());
         record.extend(value.to_le_bytes());
     }
@@ -142,25 +123,24 @@ pub fn items_in(terms: Terms, items: &[Item], wide: bool) -> Deal {
 }
 
 /// The rows of a table with these units of each item; for unit prices, the number of different amounts delivered.
-pub fn rows<U: Copy + Into<usize>>(units: &[U]) -> usize {
-    units.iter().fold(1, |rows: usize, units| rows.saturating_mul((*units).into() + 1))
+pub fn rows(units: &[u8]) -> usize {
+    units.iter().fold(1, |rows: usize, units| rows.saturating_mul(*units as usize + 1))
 }
 
 /// The units of each item that a row holds.
-pub fn held<U: Copy + Into<usize>>(units: &[U], row: usize) -> Vec<usize> {
+pub fn held(units: &[u8], row: usize) -> Vec<usize> {
     let mut rest = row;
     let mut held = vec![0; units.len()];
     for (entry, units) in held.iter_mut().zip(units).rev() {
-        let many = (*units).into() + 1;
-        *entry = rest % many;
-        rest /= many;
+        *entry = rest % (*units as usize + 1);
+        rest /= *units as usize + 1;
     }
     held
 }
 
 /// Cells that are none stay blank.
 pub fn table(terms: Terms, units: &[u8], costs: &[Option<u32>], values: &[Option<u32>]) -> Deal {
-    let mut record = start(terms, TABLE);
+    let mut record = start(terms, 5);
     record.push(units.len() as u8);
     record.extend(units);
     for cells in [costs, values] {

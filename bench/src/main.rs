@@ -7,7 +7,6 @@ mod clock;
 mod compare;
 mod damage;
 mod deals;
-mod known;
 mod library;
 mod machine;
 mod pass;

@@ -1,7 +1,7 @@
 //! A third opinion for small deals: whether a plan exists and how few steps one has, how few payments, deliveries and moves, by
 //! plain search from the definitions.
 
-use crate::deals::{held, rows, Item, Terms};
+use crate::deals::{held, rows, Terms};
 use crate::sample::{Content, Sample};
 
 /// All places of a deal, or all amounts of delivered units.
@@ -11,11 +11,10 @@ struct Places {
     rise: (i64, i64),
     lower: Vec<i64>,
     upper: Vec<i64>,
-    /// The units of each item at each place; none along one order, where a later place holds an earlier one.
-    units: Option<Vec<Vec<usize>>>,
+    units: Vec<Vec<usize>>,
 }
 
-fn places(terms: Terms, levels: &[(i64, i64)], units: Option<Vec<Vec<usize>>>) -> Places {
+fn places(terms: Terms, levels: &[(i64, i64)], units: Vec<Vec<usize>>) -> Places {
     let (first, last) = (levels[0], levels[levels.len() - 1]);
     let rise = (last.0 - first.0, last.1 - first.1);
     let price = terms.price as i64;
@@ -39,10 +38,7 @@ impl Places {
     }
 
     fn holds(&self, place: usize, other: usize) -> bool {
-        let Some(units) = &self.units else {
-            return place >= other;
-        };
-        units[place].iter().zip(&units[other]).all(|(more, less)| more >= less)
+        self.units[place].iter().zip(&self.units[other]).all(|(more, less)| more >= less)
     }
 
     fn is_step(&self, from: (usize, i64), to: (usize, i64)) -> bool {
@@ -116,7 +112,7 @@ impl Places {
         let mut steps = Vec::new();
         let (mut place, mut paid) = (0, 0);
         while (place, paid) != (last, self.price) {
-            let to = (place..=self.most(paid)).rev().find(|to| self.holds(*to, place) && self.safe_or_start((*to, paid)))?;
+            let to = (place..=last).rev().find(|to| self.holds(*to, place) && self.safe_or_start((*to, paid)))?;
             let before = (place, paid);
             (paid, place) = (self.upper[place].max(paid), to);
             if (place, paid) == before {
@@ -125,14 +121,6 @@ impl Places {
             steps.push((place, paid));
         }
         Some(steps).filter(|steps| self.is_walk(steps))
-    }
-
-    /// No place after this one is safe with the sum. Along one order no lower bound is below an earlier one.
-    fn most(&self, paid: i64) -> usize {
-        match self.units {
-            None => self.lower.partition_point(|lower| *lower <= paid).saturating_sub(1),
-            Some(_) => self.lower.len() - 1,
-        }
     }
 
     fn is_walk(&self, steps: &[(usize, i64)]) -> bool {
@@ -158,8 +146,7 @@ fn along(terms: Terms, content: &Content, order: &[u8]) -> Places {
     }
 }
 
-/// Steps that each go as far as they can and are safe but for the start; none if they do not come to the end. Along one order
-/// they are the plan, if the start is safe.
+/// For a deal that has no plan: steps that are safe but for the start, if they are easily found.
 pub fn walk(sample: &Sample, order: &[u8]) -> Option<Vec<(usize, i64)>> {
     along(sample.terms, &sample.content, order).walk()
 }
@@ -202,16 +189,20 @@ pub fn start_kinds(sample: &Sample, order: &[u8], steps: &[(usize, i64)]) -> Vec
 /// The fewest payments, the fewest deliveries and the fewest moves of plans along the order that is handed in; none for a
 /// table, or if there are too many states.
 pub fn sparing(sample: &Sample, order: &[u8]) -> Option<[usize; 3]> {
-    let table = matches!(sample.content, Content::Table(..));
-    if table || (sample.deal.units + 1) * (sample.terms.price as usize + 1) > MOST_STATES {
+    let rises = match &sample.content {
+        Content::Ladder(rises) => rises.clone(),
+        Content::Items(items) => in_order(items, order),
+        Content::Table(..) => return None,
+    };
+    if (rises.len() + 1) * (sample.terms.price as usize + 1) > MOST_STATES {
         return None;
     }
-    let places = along(sample.terms, &sample.content, order);
+    let places = ladder(sample.terms, &rises);
     Some([(1, 0), (0, 1), (1, 1)].map(|(payment, delivery)| places.lightest(payment, delivery)))
 }
 
 /// The units of the items in the order that the eight order bytes name; the area may be longer.
-fn in_order(items: &[Item], order: &[u8]) -> Vec<(u32, u32)> {
+fn in_order(items: &[(u8, u32, u32)], order: &[u8]) -> Vec<(u32, u32)> {
     let named = order.iter().take(8).filter_map(|number| items.get((*number as usize).wrapping_sub(1)));
     named.flat_map(|item| (0..item.0).map(|_| (item.1, item.2))).collect()
 }
@@ -241,7 +232,7 @@ pub fn expect(sample: &Sample) -> Option<Expected> {
         Content::Ladder(rises) if rises.len() <= 40 => ladder(sample.terms, rises).fewest(),
         Content::Table(units, costs, values) if costs.len() <= 64 => table(sample.terms, units, costs, values).fewest(),
         Content::Items(all) => {
-            let units: Vec<u16> = all.iter().map(|item| item.0).collect();
+            let units: Vec<u8> = all.iter().map(|item| item.0).collect();
             let amounts = Some(rows(&units)).filter(|rows| *rows <= 150)?;
             let fewest = items(sample.terms, all, (0..amounts).map(|row| held(&units, row)).collect()).fewest();
             return Some(fewest.map_or(Expected::Impossible, |_| Expected::Possible));
@@ -256,20 +247,20 @@ fn ladder(terms: Terms, rises: &[(u32, u32)]) -> Places {
     for (at, rise) in rises.iter().enumerate() {
         levels.push((levels[at].0 + rise.0 as i64, levels[at].1 + rise.1 as i64));
     }
-    places(terms, &levels, None)
+    places(terms, &levels, (0..levels.len()).map(|place| vec![place]).collect())
 }
 
 /// Every order of the units is a way through these amounts of each item.
-fn items(terms: Terms, items: &[Item], amounts: Vec<Vec<usize>>) -> Places {
+fn items(terms: Terms, items: &[(u8, u32, u32)], amounts: Vec<Vec<usize>>) -> Places {
     let level = |amounts: &Vec<usize>| {
         let parts = amounts.iter().zip(items).map(|(count, item)| (*count as i64, item));
         parts.fold((0, 0), |sum, (count, item)| (sum.0 + count * item.1 as i64, sum.1 + count * item.2 as i64))
     };
     let levels: Vec<_> = amounts.iter().map(level).collect();
-    places(terms, &levels, Some(amounts))
+    places(terms, &levels, amounts)
 }
 
 fn table(terms: Terms, units: &[u8], costs: &[u32], values: &[u32]) -> Places {
     let levels: Vec<_> = costs.iter().zip(values).map(|(cost, value)| (*cost as i64, *value as i64)).collect();
-    places(terms, &levels, Some((0..costs.len()).map(|row| held(units, row)).collect()))
+    places(terms, &levels, (0..costs.len()).map(|row| held(units, row)).collect())
 }

@@ -60,9 +60,6 @@ impl Bench {
         for units in [&[7, 15][..], &[7, 3, 3], &[3, 3, 3, 1]] {
             self.plan(&format!("table, irregular cells, units {units:?}"), &cases::irregular_table(units));
         }
-        for risk in RISKS {
-            self.plan("4,000 seats of one item", &cases::seats(4_000, risk));
-        }
     }
 
     /// The same deals as for planning; the steps of each kind of plan are its own.
@@ -128,7 +125,6 @@ impl Bench {
         self.check("eight items, 1,000 units", &cases::items(1000, Risk::Small));
         self.check("table, 128 rows, units [127]", &cases::table(&[127], Risk::Small));
         self.check("table, 128 rows, units [1, 63]", &cases::table(&[1, 63], Risk::Small));
-        self.check("4,000 seats of one item", &cases::seats(4_000, Risk::Small));
     }
 
     fn check(&self, name: &str, deal: &Deal) {
@@ -189,7 +185,6 @@ impl Bench {
             self.bounds(&format!("table, units {units:?}, every cell given"), &cases::table(units, Risk::Small));
             self.bounds(&format!("table, units {units:?}, blank but the last"), &cases::blank_table(units));
         }
-        self.bounds("4,000 seats of one item", &cases::seats(4_000, Risk::Small));
     }
 
     fn bounds(&self, name: &str, deal: &Deal) {
@@ -222,9 +217,6 @@ impl Bench {
         }
         for units in [250, 500, 1000] {
             self.plan(&format!("eight items, {units} units"), &cases::items(units, Risk::Small));
-        }
-        for units in [4_000, 16_000, 64_000] {
-            self.plan(&format!("one item, {units} seats"), &cases::seats(units, Risk::Small));
         }
     }
 }

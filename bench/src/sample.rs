@@ -1,12 +1,12 @@
 //! Pseudo-random deals of all forms, most of them near the border between possible and impossible.
 
-use crate::deals::{self, Deal, Item, Terms};
+use crate::deals::{self, Deal, Terms};
 use crate::random::Random;
 
 /// What a deal says, beside its record.
 pub enum Content {
     Ladder(Vec<(u32, u32)>),
-    Items(Vec<Item>),
+    Items(Vec<(u8, u32, u32)>),
     /// Units of each item, and the cells with blanks filled.
     Table(Vec<u8>, Vec<u32>, Vec<u32>),
 }
@@ -22,11 +22,6 @@ impl Sample {
     pub fn order(&self) -> Vec<u8> {
         let items = if let Content::Items(items) = &self.content { items.len() as u8 } else { 0 };
         (1..=8).map(|item| if item <= items { item } else { 0 }).collect()
-    }
-
-    /// Whether all plans are along one order, once that is chosen.
-    pub fn is_line(&self) -> bool {
-        !matches!(self.content, Content::Table(..))
     }
 }
 
@@ -103,75 +98,18 @@ fn ladder(random: &mut Random) -> Sample {
     Sample { deal: deals::ladder(terms, &rises), terms, content: Content::Ladder(rises) }
 }
 
-/// Units of each item: mostly few, since plans of many steps take long.
-fn item_units(random: &mut Random) -> Vec<u16> {
+fn items(random: &mut Random) -> Sample {
     let count = random.within(1, 8);
-    let most = match random.below(160) {
-        0..=2 => {
-            let all = [65_535, 65_534, 40_000, random.within(30_000, 65_535)][random.below(4) as usize];
-            // One item leads to most steps: of several, some have cheap units.
-            let count = if random.once_in(2) { 1 } else { count };
-            return shared(random, all, count);
-        }
-        3..=8 => {
-            let all = [4_000, random.within(256, 4_500)][random.below(2) as usize];
-            return shared(random, all, count);
-        }
-        9..=11 => return full_bytes(random),
-        12..=16 => return about_a_byte(random, count),
-        17..=34 => 1000 / count,
-        35..=70 => 12,
+    let most_units = match random.below(8) {
+        0 => 1000 / count,
+        1 | 2 => 12,
         _ => 3,
     };
-    (0..count).map(|_| random.within(1, most.min(255)) as u16).collect()
-}
-
-/// So many units, shared out to so many items.
-fn shared(random: &mut Random, all: u64, count: u64) -> Vec<u16> {
-    let mut rest = all;
-    let mut units = Vec::new();
-    for after in (0..count).rev() {
-        // Each item after this one needs a unit.
-        let some = if after > 0 { random.within(1, rest - after) } else { rest };
-        units.push(some as u16);
-        rest -= some;
-    }
-    units.rotate_left(random.below(count) as usize);
-    units
-}
-
-/// No item with more than 255 units, but about 1,000 or more together.
-fn full_bytes(random: &mut Random) -> Vec<u16> {
-    let mut units = vec![255; random.within(4, 8) as usize];
-    let most = 255 * units.len() as u64;
-    let all = [1_000, 1_001, most, random.within(1_001, most)][random.below(4) as usize];
-    let mut over = most - all;
-    while over > 0 {
-        let item = random.below(units.len() as u64) as usize;
-        let less = random.within(1, 99).min(over).min(units[item] as u64 - 1);
-        units[item] -= less as u16;
-        over -= less;
-    }
-    units
-}
-
-/// Few units, but of one item about as many as a byte holds.
-fn about_a_byte(random: &mut Random, count: u64) -> Vec<u16> {
-    let mut units: Vec<u16> = (0..count).map(|_| random.within(1, 3) as u16).collect();
-    units[random.below(count) as usize] = random.within(254, 258) as u16;
-    units
-}
-
-fn items(random: &mut Random) -> Sample {
-    let units = item_units(random);
-    let all = units.iter().map(|units| *units as u64).sum::<u64>();
-    let scale = scale(random, all.max(255 * 8));
-    // Where cost and value are alike the room never widens, and a plan has many steps.
-    let alike = random.once_in(if all > 1_000 { 2 } else { 8 });
+    let scale = scale(random, 255 * 8);
     let mut items = Vec::new();
-    for units in units {
-        let cost = amount(random, &scale);
-        items.push((units, cost, if alike { cost } else { amount(random, &scale) }));
+    for _ in 0..count {
+        let units = random.within(1, most_units.min(255)) as u8;
+        items.push((units, amount(random, &scale), amount(random, &scale)));
     }
     let mut cost = items.iter().map(|item| item.0 as u64 * item.1 as u64).sum();
     let mut value = items.iter().map(|item| item.0 as u64 * item.2 as u64).sum();

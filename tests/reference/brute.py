@@ -59,9 +59,7 @@ def unit_orders(contract):
 
 
 def world_along(contract, order):
-    held = [(0,) * contract.header.count]
-    for item in order:
-        held.append((*held[-1][:item - 1], held[-1][item - 1] + 1, *held[-1][item:]))
+    held = [tuple(order[:k].count(item) for item in range(1, contract.header.count + 1)) for k in range(len(order) + 1)]
     costs, values = ([sum(n * amount for n, amount in zip(units, amounts)) for units in held]
                      for amounts in (contract.costs, contract.values))
     return World(contract.header, costs, values, held)

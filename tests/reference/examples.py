@@ -10,7 +10,7 @@ from pathlib import Path
 
 import record
 
-PRICE_BIT, LADDER_BIT, UNIT_PRICES_BIT, TABLE_BIT, WIDE_BIT = 0, 3, 4, 5, 7
+PRICE_BIT, LADDER_BIT, UNIT_PRICES_BIT, TABLE_BIT = 0, 3, 4, 5
 
 
 @dataclass(frozen=True)
@@ -32,9 +32,9 @@ def amounts(*xs):
     return b"".join(number(x, 4) for x in xs)
 
 
-def map_and_amounts(form_bit, deal, other_bits=0):
+def map_and_amounts(form_bit, deal):
     """The bit map and those of price, cs and cd that are not zero."""
-    bits = 1 << form_bit | other_bits
+    bits = 1 << form_bit
     for bit, amount in enumerate(deal, PRICE_BIT):
         bits |= (amount != 0) << bit
     return number(bits, 2) + amounts(*filter(None, deal))
@@ -47,11 +47,6 @@ def ladder(deal, rises):
 def unit_prices(deal, items):
     lines = (number(units, 1) + amounts(cost, value) for units, cost, value in items)
     return map_and_amounts(UNIT_PRICES_BIT, deal) + number(len(items), 1) + b"".join(lines)
-
-
-def wide_unit_prices(deal, items):
-    lines = (number(units, 2) + amounts(cost, value) for units, cost, value in items)
-    return map_and_amounts(UNIT_PRICES_BIT, deal, 1 << WIDE_BIT) + number(len(items), 1) + b"".join(lines)
 
 
 def table(deal, units, costs, values):
@@ -69,8 +64,6 @@ def cells(column):
 
 CASE_A = (10, 1, 3)
 CASE_A_RISES = [(4, 6), (4, 6)]
-
-G_ITEMS = ((1, 5, 3), (1, 3, 6))
 
 TABLE_3_DEAL = (22, 2, 2)
 TABLE_3_UNITS = (1, 4)
@@ -96,12 +89,6 @@ FIRST_ROW_DEAL = (6, 1, 2)
 FIRST_ROW_COSTS = (3, 5, 6, 8)
 FIRST_ROW_VALUES = (2, 4, 5, 9)
 
-# More than 255 units of an item: units, cost and value of a unit, the deal, and its plan
-SEATS_DEAL = (360_000, 20_000, 10_000)
-SEATS = ((4_000, 80, 100),)
-SEATS_STEPS = ((500, 60_000), (1_100, 100_000), (1_500, 148_000), (1_980, 180_000), (2_300, 218_400), (2_684, 244_000),
-               (2_940, 274_720), (3_247, 295_200), (3_452, 319_760), (3_697, 336_160), (3_861, 355_760), (4_000, 360_000))
-
 LARGEST = 1_000_000_000
 
 
@@ -109,7 +96,7 @@ LARGEST = 1_000_000_000
 
 def examples():
     return [*case_a_and_its_changes(), case_e(), case_f(), *cases_g_and_h(), *sessions_and_cuts(),
-            two_orders(), two_rules(), table_3(), first_row(), *stocks(), *long_ladders(), *many_seats(), *totals()]
+            two_orders(), two_rules(), table_3(), first_row(), *stocks(), *long_ladders(), *totals()]
 
 
 def case_a_and_its_changes():
@@ -152,11 +139,12 @@ def listed(xs):
 
 
 def cases_g_and_h():
+    items = [(1, 5, 3), (1, 3, 6)]
     lines = "Two items of one unit, cost and value (5, 3) and (3, 6)."
     return [
-        Example("case-g", unit_prices((8, 1, 2), G_ITEMS), 0, ("Case G: unit prices, P 8, cs 1, cd 2.", lines),
+        Example("case-g", unit_prices((8, 1, 2), items), 0, ("Case G: unit prices, P 8, cs 1, cd 2.", lines),
                 ("Planning: order 1, 2; (1, 1), (1, 6), (2, 6), (2, 8).",)),
-        Example("case-h", unit_prices((8, 1, 1), G_ITEMS), 0, ("Case H: case G with cd 1.", lines),
+        Example("case-h", unit_prices((8, 1, 1), items), 0, ("Case H: case G with cd 1.", lines),
                 ("Planning: refused 9.",)),
     ]
 
@@ -240,19 +228,6 @@ def long_ladders():
     return [
         Example("ladder-1000", of(1_000), 0, ("Ladder of 1,000 units, the most that is read.", lines), ()),
         Example("ladder-1001", of(1_001), record.RANGE, ("Ladder of 1,001 units, one too many.", lines), ()),
-    ]
-
-
-def many_seats():
-    return [
-        Example("seats-4000", wide_unit_prices(SEATS_DEAL, SEATS), 0,
-                ("A university buys 4,000 seats: unit prices of one item, P 360000, cs 20000, cd 10000.",
-                 "A seat costs 80 and is worth 100. More than 255 units of an item: bit 7 stands, units fields have two bytes."),
-                (f"Planning: order 1; {listed(SEATS_STEPS[:6])},", f"{listed(SEATS_STEPS[6:])}.",
-                 "A desk lends areas for 4,000 units, that is 8,001 places and sums, though the plan has 12 steps.",
-                 "The plan printer's areas hold 2,001, so it writes:", "refused 8")),
-        Example("wide-unneeded", wide_unit_prices((8, 1, 2), G_ITEMS), record.VALUE,
-                ("Case G with bit 7 and units fields of two bytes, though no item has more than 255 units.",), ()),
     ]
 
 

@@ -1,7 +1,6 @@
 """Cases for comparing two planners, checkers and sessions, the same on every run.
 
 plan_cases(seed), bounds_cases(seed), check_cases(seed), session_cases(seed)   one by one, of the classes below
-longest_plans(seed), longest_checks(seed), longest_sessions(seed)              few more, with as many steps as there can be
 
 Most deals are tight: the leaving costs are about the least with which a plan exists, and the price is within the range in
 which the start is safe, at an end of it, or next to one. So many are impossible and many just possible; of some the start
@@ -9,7 +8,6 @@ alone is not safe.
 """
 import random
 from dataclasses import dataclass, replace
-from functools import cache
 from itertools import product
 from math import inf
 
@@ -20,9 +18,6 @@ import record_cases
 from record import LADDER, MOST_MONEY, TABLE, UNIT_PRICES, Contract, Header
 from record_cases import FORMS, MAX_U16, MAX_U32, MAX_U64, in_turn
 
-ALL_UNITS = record.MOST_UNITS[UNIT_PRICES]
-MOST_STEPS = 2 * ALL_UNITS + 1
-MANY_UNITS = (4_000,), (33_000, 7), (255,) * 7 + (63_750,)
 LARGE_TABLES = ((3, 3, 3, 1), (7, 15), (1, 1, 1, 15), (127,), (10, 10), (1, 7, 7), (4, 4, 4), (63, 1), (5, 20))
 
 NAMES = {LADDER: "ladder", UNIT_PRICES: "unit prices", TABLE: "table"}
@@ -93,7 +88,7 @@ def some_ladder(rng, most_units, most_amount):
 def some_items(rng, most_units, most_amount):
     """Amounts of a unit that differ between items; equal ones are common, so that ties are tried."""
     count = rng.randint(1, min(most_units, record.MOST_ITEMS[UNIT_PRICES]))
-    most = min(record.MOST_NARROW_UNITS, most_units // count)
+    most = min(record.MOST_ITEM_UNITS, most_units // count)
     units = [rng.choice((1, rng.randint(1, most))) for _ in range(count)]
     columns = ([rng.randint(0, most_amount) for _ in units] for _ in range(2))
     return Contract(Header(form=UNIT_PRICES, count=count, units=record.padded(units)), *columns)
@@ -107,7 +102,7 @@ def ranked_items(rng, most_units, most_amount):
     most_units -= outweighed
     count = rng.randint(2, min(most_units, record.MOST_ITEMS[UNIT_PRICES] - outweighed))
     units = [1] * count
-    more = min(most_units - count, record.MOST_NARROW_UNITS - 1)
+    more = min(most_units - count, record.MOST_ITEM_UNITS - 1)
     units[rng.randrange(count)] += rng.randint(min(more, 1), more)
     amounts = [range(least, least + max(count, most_amount // 2 + 2)) for least in (0, 1)]
     if rng.random() < 0.55:
@@ -185,10 +180,9 @@ def priced(rng, contract, leaving_costs):
 
 def whole_rises(contract):
     """How much cost and value rise from the first place to the last."""
-    if contract.header.form == TABLE:
-        return tuple(cells[-1] - cells[0] for cells in (contract.costs, contract.values))
-    units = (1,) * contract.header.count if contract.header.form == LADDER else contract.header.units
-    return record.total(units, contract.costs), record.total(units, contract.values)
+    items = tuple(range(1, contract.header.count + 1))
+    costs, values = planning.place_totals(contract, items)
+    return costs[-1] - costs[0], values[-1] - values[0]
 
 
 def least_leaving_costs(contract):
@@ -239,30 +233,6 @@ def large_deal(rng, form):
         columns = (some_cells(rng, units, min(most_amount, 10_000)) for _ in range(2))
         goods = Contract(Header(form=TABLE, count=len(units), units=record.padded(units)), *columns)
     return rng.choice((tight, tight, loose))(rng, worth_it(rng, goods))
-
-
-def wide_deal(rng, most_units):
-    """Items of which some have more than 255 units, or narrow ones of more than 1,000 together; else about so many at most."""
-    units = rng.choice(([rng.randint(256, most_units)], wide_units(rng, most_units), wide_units(rng, most_units),
-                        rng.choices((255, 254, 200), k=rng.randint(6, 8))))
-    most_amount = rng.choice((5, 1_000, MOST_MONEY // ALL_UNITS))
-    columns = ([rng.randint(0, most_amount) for _ in units] for _ in range(2))
-    goods = Contract(Header(form=UNIT_PRICES, count=len(units), units=record.padded(units)), *columns)
-    return rng.choice((tight, loose, loose))(rng, worth_it(rng, goods))
-
-
-def wide_units(rng, most_units):
-    count = rng.randint(2, record.MOST_ITEMS[UNIT_PRICES])
-    units = [rng.choice((1, 255, 256, rng.randint(1, most_units // count))) for _ in range(count)]
-    units[rng.randrange(count)] = rng.randint(256, max(256, most_units - sum(units)))
-    return units
-
-
-def few_steps(units, supplier=8, buyer=8):
-    """Leaving costs of about an eighth of the price, so that each step delivers about as large a part."""
-    amount = MOST_MONEY // ALL_UNITS
-    price = amount * sum(units)
-    return even_deal(UNIT_PRICES, units, amount, price // supplier, price // buyer)
 
 
 def even_deal(form, units, amount, supplier, buyer):
@@ -403,50 +373,17 @@ def extreme_plans(rng, count):
 
 
 def limit_plans(rng):
-    """Contracts at the limits of a record and one beyond: whole, cut by a byte, behind the last units, and behind the first. Those of
-    many units have short areas: 8 tells that they are read, and planning them takes its time."""
+    """Contracts at the limits of a record and one beyond, whole, cut by a byte, and cut behind the first units."""
     for contract in (*record_cases.limit_contracts(), record_cases.too_many_rows_early()):
-        many = contract.header.form == UNIT_PRICES and planning.all_units(contract) > 3_000
-        case = plan_case(rng, "limits", contract, [40, 80, 8, 0] if many else None)
-        yield from (replace(case, record=case.record[:end]) for end in (None, -1, -8, 4))
-
-
-def wide_plans(rng, each):
-    """Records with bit 7 and faults that only these have; then deals of hundreds and of thousands of units, and some of as many
-    as there can be."""
-    for data in in_turn(record_cases.needless_records(), record_cases.wide_maps(rng), record_cases.units_of_none(rng)):
-        tail = rng.choice((b"", b"\0"))
-        yield PlanCase("faults of wide records", data + tail, *filled(rng, longer_lengths(rng, [40, 80, 8, 0])))
-    yield from (plan_case(rng, "wide", wide_deal(rng, 600)) for _ in range(20 * each))
-    yield from (plan_case(rng, "wide, unit by unit", unit_by_unit(UNIT_PRICES, units)) for units in ((255,) * 8, (1, 256, 600)))
-    yield from wide_areas(rng, few_steps((256, 1_745)))
-    yield from (plan_case(rng, "wide, few steps", few_steps(units, *rng.sample((7, 8, 40), 2))) for units in MANY_UNITS)
-    yield from (plan_case(rng, "wide", wide_deal(rng, 5_000)) for _ in range(4 * each))
-    yield from wide_areas(rng, few_steps((ALL_UNITS,)))
-
-
-def wide_areas(rng, contract):
-    """Areas just long enough, and each of them an entry or a byte short."""
-    need = needed(contract)
-    yield plan_case(rng, "wide, areas", contract, need)
-    for area, size in (0, planning.PLACE_SIZE), (1, planning.SUM_SIZE), (2, 1):
-        yield from (plan_case(rng, "wide, areas", contract, changed(need, area, -less)) for less in {1, size})
-
-
-def longest_deal():
-    """As many steps as there can be, with great sums."""
-    return unit_by_unit(UNIT_PRICES, (ALL_UNITS,), MOST_MONEY // ALL_UNITS)
-
-
-def longest_plans(seed):
-    yield plan_case(random.Random(seed), "longest", longest_deal(), needed(longest_deal()))
+        case = plan_case(rng, "limits", contract)
+        yield from (replace(case, record=case.record[:end]) for end in (None, -1, 4))
 
 
 def plan_cases(seed, scale=1):
     rng = random.Random(seed)
     return in_turn(example_plans(rng), limit_plans(rng), tiny_plans(rng, 400 * scale), small_plans(rng, 600 * scale),
                    area_plans(rng, 20 * scale), damaged_plans(rng, 900 * scale), extreme_plans(rng, 300 * scale),
-                   large_plans(rng, 15 * scale), wide_plans(rng, scale))
+                   large_plans(rng, 15 * scale))
 
 
 # Orders
@@ -482,8 +419,7 @@ def with_tail(rng, order):
 
 def bounds_case(rng, contract, damage):
     last = planning.last_place(contract)
-    beyond = (last + 1, MAX_U16, MAX_U16 + 1, MAX_U16 + 1 + last, MAX_U32 + 1, MAX_U64)
-    place = rng.choice((0, last, *(rng.randint(0, last) for _ in range(4)), *rng.sample(beyond, 3)))
+    place = rng.choice((0, last, rng.randint(0, last), rng.randint(0, last), last + 1, MAX_U16))
     order = with_tail(rng, some_order(rng, contract))
     if rng.random() < 0.3:
         order = wrong_order(rng, order)
@@ -497,11 +433,6 @@ def bounds_cases(seed, scale=1):
     yield from (bounds_case(rng, small_deal(rng), damage=True) for _ in range(300 * scale))
     yield from (bounds_case(rng, record_cases.some_contract(rng), damage=False) for _ in range(300 * scale))
     yield from (bounds_case(rng, large_deal(rng, form), damage=False) for form in FORMS for _ in range(10 * scale))
-    yield from (bounds_case(rng, wide_deal(rng, 2_000), damage=False) for _ in range(40 * scale))
-    for units in MANY_UNITS:
-        contract, last = few_steps(units), sum(units)
-        for place in 0, last - 1, last, last + 1, MAX_U16, MAX_U16 + 1, MAX_U16 + 1 + last:
-            yield BoundsCase("bounds many units", record_of(rng, contract), place, some_order(rng, contract))
 
 
 # Brought plans: lists of states, changed in one way each
@@ -536,16 +467,9 @@ def brought(rng, contract):
     if steps is None or not deal.is_plan(steps):
         steps = sorted((rng.randint(0, deal.last), rng.randint(0, deal.price)) for _ in range(rng.randint(0, 4)))
         steps.append((deal.last, deal.price))
-    elif deal.last <= 1_000 and rng.random() < 0.4:  # beyond that it takes too long
+    elif rng.random() < 0.4:
         steps = slower(rng, deal, steps)
     return Brought(contract, deal, items, steps)
-
-
-@cache
-def longest_plan():
-    contract = longest_deal()
-    deal = from_any_start(contract, (1,))
-    return Brought(contract, deal, (1,), planning.steps_along(deal))
 
 
 def slower(rng, deal, steps):
@@ -685,7 +609,7 @@ def with_damage(rng, case):
 
 def check_cases(seed, scale=1):
     rng = random.Random(seed)
-    kinds = [changed_plans(rng, form, 500 * scale, 3 * scale) for form in FORMS] + [wide_checks(rng, 25 * scale)]
+    kinds = [changed_plans(rng, form, 500 * scale, 3 * scale) for form in FORMS]
     return in_turn(*kinds, *(spoiled_plans(rng, spoiled, 400 * scale)
                              for spoiled in (with_other_count, with_wrong_order, with_cut_area, with_damage)))
 
@@ -699,23 +623,6 @@ def changed_plans(rng, form, small, large):
     for _ in range(large):
         plan = brought(rng, large_deal(rng, form))
         yield from [check_case(rng, "large " + NAMES[form], plan) for _ in range(4)]
-
-
-def wide_checks(rng, count):
-    """Plans of wide deals; at last of as many units as there can be, with places above 32,767."""
-    for _ in range(count):
-        plan = brought(rng, wide_deal(rng, 600))
-        yield from [check_case(rng, "wide", plan) for _ in range(4)]
-    for units in MANY_UNITS:
-        plan = brought(rng, few_steps(units))
-        yield from [check_case(rng, "many units", plan) for _ in range(3)]
-
-
-def longest_checks(seed):
-    """The plan itself, and one whose last step but one is not safe."""
-    rng, plan = random.Random(seed), longest_plan()
-    place, paid = plan.steps[-2]
-    yield from (brought_case(rng, "longest", plan, [*plan.steps[:-2], (place, paid + more), plan.steps[-1]]) for more in (0, 1))
 
 
 def spoiled_plans(rng, spoiled, count):
@@ -821,27 +728,8 @@ def session_lengths(rng):
             yield replace(case, area=session_area(rng, session_content(rng, passed), length), opens=False)
 
 
-def wide_sessions(rng, count):
-    """Along plans of wide deals, whose places are above 32,767 too."""
-    deals = [wide_deal(rng, 600) for _ in range(count)] + [few_steps(units) for units in MANY_UNITS]
-    for plan in (brought(rng, deal) for deal in deals):
-        steps = plan.steps if len(plan.steps) < 100 else [(plan.deal.last, plan.deal.price)]
-        yield session_case(rng, "opened, wide", plan, steps, planning.SESSION_SIZE)
-
-
-def longest_sessions(seed):
-    """Under way: about step 65,536, and at the end."""
-    rng, plan = random.Random(seed), longest_plan()
-    case = brought_case(rng, "longest", plan, plan.steps)
-    for passed in MAX_U16 - 1, MOST_STEPS - 2:
-        reports = disturbed(rng, fitting_reports(rng, plan.steps[:passed + 4], passed)) + [(0, 0)]
-        area = passed.to_bytes(planning.PASSED_SIZE, "little") + bytes(2)
-        yield SessionCase(**vars(case), area=area, opens=False, reports=tuple(reports))
-
-
 def session_cases(seed, scale=1):
     rng = random.Random(seed)
     long = brought(rng, unit_by_unit(LADDER, (150,)))
     return in_turn(session_lengths(rng), opened_sessions(rng, 1_500 * scale), invented_sessions(rng, 3_000 * scale),
-                   wide_sessions(rng, 25 * scale),
                    [session_case(rng, "opened, long", long, long.steps, planning.SESSION_SIZE)])

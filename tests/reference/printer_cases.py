@@ -12,10 +12,8 @@ from record_cases import FORMS
 
 LONGEST = 8_016  # bytes of the longest record
 # units of deals with as many places as there can be, and of tables with 128 rows
-LARGE = {LADDER: ((1_000,),), UNIT_PRICES: ((125,) * 8, (255, 255, 255, 235), (250,) * 4, (1_000,), (1, 256, 743)),
+LARGE = {LADDER: ((1_000,),), UNIT_PRICES: ((125,) * 8, (255, 255, 255, 235), (250,) * 4),
          TABLE: ((127,), (1, 63), (3, 3, 3, 1), (7, 15))}
-# units of deals that are too large for the printer's areas, narrow and wide
-TOO_LARGE = (255, 255, 255, 236), (255,) * 8, (1_001,), (500, 501), (4_000,), (65_535,), (255,) * 7 + (63_750,)
 ROUNDS = 40  # of small deals in each form
 
 
@@ -44,22 +42,6 @@ def near_limit(rng, form):
     return planning_cases.with_deal(goods, factor * header.price, factor * header.supplier + more, factor * header.buyer)
 
 
-def too_large():
-    """In many steps, in one, and without any plan: 8 stands ahead of 9."""
-    for units in TOO_LARGE:
-        yield unit_by_unit(UNIT_PRICES, units)
-        yield even_deal(UNIT_PRICES, units, 1, 65_535, 65_535)
-        yield even_deal(UNIT_PRICES, units, 1, 0, 0)
-
-
-def wide_faults(rng):
-    for data in *record_cases.needless_records(), *record_cases.wide_maps(rng), *record_cases.units_of_none(rng):
-        yield data
-    for contract in record_cases.limit_units(1):
-        yield content_of(contract)
-        yield content_of(contract) + b"\0"
-
-
 def deals(rng):
     for form in FORMS:
         for _ in range(ROUNDS):
@@ -70,8 +52,6 @@ def deals(rng):
             yield "large " + NAMES[form], planning_cases.large_deal(rng, form)
     for deal in longest_plans():
         yield "longest " + NAMES[deal.header.form], deal
-    for deal in too_large():
-        yield "too large", deal
     for _ in range(ROUNDS // 4):
         yield "amounts at the limit", planning_cases.with_deal(record_cases.some_contract(rng), *[MOST_MONEY] * 3)
 
@@ -98,7 +78,5 @@ def all_inputs(seed):
         yield kind, planning_cases.record_of(rng, deal)
     for i in range(3 * ROUNDS):
         yield "damaged", planning_cases.damaged(rng, planning_cases.small_deal(rng, FORMS[i % 3]))
-    for content in wide_faults(rng):
-        yield "wide", content
     for content in around_longest(rng):
         yield "long input", content

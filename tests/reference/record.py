@@ -11,14 +11,12 @@ from math import prod
 
 LADDER, UNIT_PRICES, TABLE = 0, 1, 2
 FORM_BIT = 3  # of a ladder; the other forms have the next bits, the three amounts those before
-WIDE_BIT = 7  # units fields have two bytes, only for unit prices
-UNKNOWN_BITS = 0xFF40
 
 TRUNCATED, MAP, VALUE, LIMIT, RANGE, FALLING, TRAILING, SHORT = range(1, 9)
 
 MOST_MONEY = 1_000_000_000  # for an amount, and for a form's total cost and total value
-MOST_UNITS = {LADDER: 1_000, UNIT_PRICES: 65_535}  # of all items together
-MOST_NARROW_UNITS = 255     # of an item, where its units field has one byte
+MOST_UNITS = 1_000          # of a ladder, and of all items with unit prices together
+MOST_ITEM_UNITS = 255
 MOST_ITEMS = {UNIT_PRICES: 8, TABLE: 4}
 MOST_ROWS = 128
 HEADER_ITEMS = 8            # places for units in a header
@@ -95,11 +93,10 @@ def read(record, m, n):
 def parse_fields(fields):
     bits = fields.number(2)
     forms = [form for form in (LADDER, UNIT_PRICES, TABLE) if stands(bits, FORM_BIT + form)]
-    wide = stands(bits, WIDE_BIT)
-    refuse(MAP, bits & UNKNOWN_BITS or len(forms) != 1 or wide and forms != [UNIT_PRICES])
+    refuse(MAP, bits >> FORM_BIT + 3 or len(forms) != 1)
     form = forms[0]
     price, supplier, buyer = (parse_amount(fields) if stands(bits, bit) else 0 for bit in range(FORM_BIT))
-    parse_form = {LADDER: parse_ladder, UNIT_PRICES: parse_wide if wide else parse_narrow, TABLE: parse_table}[form]
+    parse_form = {LADDER: parse_ladder, UNIT_PRICES: parse_unit_prices, TABLE: parse_table}[form]
     count, units, costs, values = parse_form(fields)
     refuse(TRAILING, fields.rest)
     refuse(FALLING, form == TABLE and (falls(costs, units) or falls(values, units)))
@@ -122,7 +119,7 @@ def parse_amount(fields):
 
 
 def parse_ladder(fields):
-    count = fields.number_within(2, MOST_UNITS[LADDER])
+    count = fields.number_within(2, MOST_UNITS)
     costs, values = [], []
     for _ in range(count):
         for rises in costs, values:
@@ -131,27 +128,12 @@ def parse_ladder(fields):
     return count, (), costs, values
 
 
-def parse_narrow(fields):
-    return parse_unit_prices(fields, 1, MOST_NARROW_UNITS)
-
-
-def parse_wide(fields):
-    """The paper: the bit stands "exactly when some item has more than 255"; else 3, "after the last item's fields"."""
-    count, units, costs, values = parse_unit_prices(fields, 2, MOST_UNITS[UNIT_PRICES])
-    refuse(VALUE, not needs_wide(units))
-    return count, units, costs, values
-
-
-def needs_wide(units):
-    return max(units) > MOST_NARROW_UNITS
-
-
-def parse_unit_prices(fields, units_size, most):
+def parse_unit_prices(fields):
     count = fields.number_within(1, MOST_ITEMS[UNIT_PRICES])
     units, costs, values = [], [], []
     for _ in range(count):
-        units.append(fields.number_within(units_size, most))
-        refuse(RANGE, sum(units) > MOST_UNITS[UNIT_PRICES])
+        units.append(fields.number_within(1, MOST_ITEM_UNITS))
+        refuse(RANGE, sum(units) > MOST_UNITS)
         for amounts in costs, values:
             amounts.append(fields.number(4))
             refuse(LIMIT, total(units, amounts) > MOST_MONEY)
@@ -164,7 +146,7 @@ def total(units, amounts):
 
 def parse_table(fields):
     count = fields.number_within(1, MOST_ITEMS[TABLE])
-    units = [fields.number_within(1, MOST_NARROW_UNITS) for _ in range(count)]
+    units = [fields.number_within(1, MOST_ITEM_UNITS) for _ in range(count)]
     refuse(RANGE, row_count(units) > MOST_ROWS)
     costs = parse_cells(fields, units)
     values = parse_cells(fields, units)
@@ -231,20 +213,19 @@ def written(header, costs, values):
     costs, values = costs[:entries], values[:entries]
     refuse(LIMIT, max(limited_amounts(header, units, costs, values)) > MOST_MONEY)
     refuse(FALLING, header.form == TABLE and (falls(costs, units) or falls(values, units)))
-    wide = header.form == UNIT_PRICES and needs_wide(units)
-    return map_and_amounts(header, wide) + form_bytes(header, units, wide, costs, values)
+    return map_and_amounts(header) + form_bytes(header, units, costs, values)
 
 
 def item_units(header):
     """The units of each item, none for a ladder; refuses every count that no record can hold."""
     if header.form == LADDER:
-        refuse(RANGE, not 1 <= header.count <= MOST_UNITS[LADDER])
+        refuse(RANGE, not 1 <= header.count <= MOST_UNITS)
         return ()
     refuse(RANGE, not 1 <= header.count <= MOST_ITEMS[header.form])
     units = header.units[:header.count]
-    refuse(RANGE, 0 in units)
-    refuse(RANGE, header.form == UNIT_PRICES and sum(units) > MOST_UNITS[UNIT_PRICES])
-    refuse(RANGE, header.form == TABLE and row_count(units) > MOST_ROWS)  # so of no item more than 255
+    refuse(RANGE, not all(1 <= n <= MOST_ITEM_UNITS for n in units))
+    refuse(RANGE, header.form == UNIT_PRICES and sum(units) > MOST_UNITS)
+    refuse(RANGE, header.form == TABLE and row_count(units) > MOST_ROWS)
     return units
 
 
@@ -262,8 +243,8 @@ def limited_amounts(header, units, costs, values):
     return amounts + costs + values
 
 
-def map_and_amounts(header, wide):
-    bits, amounts = 1 << FORM_BIT + header.form | wide << WIDE_BIT, b""
+def map_and_amounts(header):
+    bits, amounts = 1 << FORM_BIT + header.form, b""
     for bit, amount in enumerate((header.price, header.supplier, header.buyer)):
         if amount:
             bits |= 1 << bit
@@ -271,12 +252,12 @@ def map_and_amounts(header, wide):
     return number_bytes(bits, 2) + amounts
 
 
-def form_bytes(header, units, wide, costs, values):
+def form_bytes(header, units, costs, values):
     if header.form == LADDER:
         pairs = (number_bytes(cost, 4) + number_bytes(value, 4) for cost, value in zip(costs, values))
         return number_bytes(header.count, 2) + b"".join(pairs)
     if header.form == UNIT_PRICES:
-        items = (number_bytes(n, 2 if wide else 1) + number_bytes(cost, 4) + number_bytes(value, 4)
+        items = (bytes([n]) + number_bytes(cost, 4) + number_bytes(value, 4)
                  for n, cost, value in zip(units, costs, values))
         return bytes([header.count]) + b"".join(items)
     return bytes([header.count, *units]) + cell_bytes(costs, units) + cell_bytes(values, units)

@@ -9,8 +9,8 @@ from itertools import zip_longest
 
 import examples
 import record
-from record import FORM_BIT, LADDER, MOST_ITEMS, MOST_MONEY, MOST_NARROW_UNITS, MOST_ROWS, MOST_UNITS, TABLE, UNIT_PRICES
-from record import WIDE_BIT, Contract, Header
+from record import FORM_BIT, LADDER, MOST_ITEMS, MOST_ITEM_UNITS, MOST_MONEY, MOST_ROWS, MOST_UNITS, TABLE, UNIT_PRICES
+from record import Contract, Header
 
 FORMS = (LADDER, UNIT_PRICES, TABLE)
 MAX_U16, MAX_U32, MAX_U64 = 2 ** 16 - 1, 2 ** 32 - 1, 2 ** 64 - 1
@@ -46,14 +46,10 @@ def some_amount(rng, most):
 def some_contract(rng, form=None, standing=False):
     """A contract that can be written; standing asks that price, supplier and buyer are not zero."""
     form = rng.choice(FORMS) if form is None else form
-    return with_amounts(rng, form, (some_ladder, some_items, some_table)[form](rng), standing)
-
-
-def with_amounts(rng, form, goods, standing):
     amounts = [some_amount(rng, MOST_MONEY) for _ in range(3)]
     if standing:
         amounts = [max(amount, 1) for amount in amounts]
-    count, units, costs, values = goods
+    count, units, costs, values = (some_ladder, some_items, some_table)[form](rng)
     return Contract(Header(*amounts, form, count, record.padded(units)), costs, values)
 
 
@@ -63,27 +59,10 @@ def some_ladder(rng):
 
 
 def some_items(rng):
-    """Half of them narrow; the others about where the record turns wide, so that some are."""
     count = rng.randint(1, MOST_ITEMS[UNIT_PRICES])
-    most = rng.choice((MOST_NARROW_UNITS, MOST_NARROW_UNITS, MOST_NARROW_UNITS + 1, 2 * MOST_NARROW_UNITS))
+    most = min(MOST_ITEM_UNITS, MOST_UNITS // count)
     units = [rng.choice((1, 2, most, rng.randint(1, most))) for _ in range(count)]
     return count, units, some_rises(rng, units), some_rises(rng, units)
-
-
-def wide_items(rng, count):
-    """So many items, one of them at least with more than 255 units, at times of all together as many as there can be."""
-    left, units = MOST_UNITS[UNIT_PRICES] - count, [1] * count
-    for i in rng.sample(range(count), count):
-        more = rng.choice((0, MOST_NARROW_UNITS - 1, MOST_NARROW_UNITS, rng.randint(0, left), left))
-        units[i] += min(more, left)
-        left -= units[i] - 1
-    if max(units) <= MOST_NARROW_UNITS:
-        units[rng.randrange(count)] += rng.choice((MOST_NARROW_UNITS, 4_000, 32_767))
-    return count, units, some_rises(rng, units), some_rises(rng, units)
-
-
-def wide_contract(rng, count, standing=False):
-    return with_amounts(rng, UNIT_PRICES, wide_items(rng, count), standing)
 
 
 def some_rises(rng, units):
@@ -143,7 +122,6 @@ def fields_of(contract, gives=lambda: False):
     header = contract.header
     amounts = header.price, header.supplier, header.buyer
     bits = 1 << FORM_BIT + header.form | sum((amount > 0) << bit for bit, amount in enumerate(amounts))
-    bits |= (units_size(header) - 1) << WIDE_BIT
     start = [Field("map", 2, bits)] + [Field("amount", 4, amount) for amount in amounts if amount]
     start.append(Field("count", 2 if header.form == LADDER else 1, header.count))
     if header.form == TABLE:
@@ -153,16 +131,11 @@ def fields_of(contract, gives=lambda: False):
     return start + entry_fields(contract)
 
 
-def units_size(header):
-    """The bytes of a units field."""
-    return 1 + (header.form == UNIT_PRICES and max(header.units[:header.count]) > MOST_NARROW_UNITS)
-
-
 def entry_fields(contract):
     fields = []
     for i, pair in enumerate(zip(contract.costs, contract.values)):
         if contract.header.form == UNIT_PRICES:
-            fields.append(Field("units", units_size(contract.header), contract.header.units[i]))
+            fields.append(Field("units", 1, contract.header.units[i]))
         fields += [Field("entry", 4, amount) for amount in pair]
     return fields
 
@@ -174,13 +147,6 @@ def cell_fields(cells, units, gives):
 
 
 # Faults, in the order of the refusals that they are made for. One that finds no such field changes another one.
-
-def widened(fields):
-    fields[0].number |= 1 << WIDE_BIT
-    for field in fields:
-        field.size = 2 if field.name == "units" else field.size
-    return fields
-
 
 @dataclass
 class Draft:
@@ -226,12 +192,7 @@ def spoil_amount(rng, draft):
 
 def spoil_count(rng, draft):
     field = rng.choice(draft.named("count") + draft.named("units"))
-    field.number = rng.choice((0, 0, 5, 9, 127, 128, 250, 255, 256, 1_001, field.number + 1, MAX_U16))
-
-
-def widen(rng, draft):
-    """Units fields of two bytes, which a narrow record does not need and other forms do not have."""
-    widened(draft.fields)
+    field.number = rng.choice((0, 0, 5, 9, 127, 128, 250, 255, 1_001, field.number + 1, MAX_U16))
 
 
 def lower_cell(rng, draft):
@@ -248,7 +209,7 @@ def shorten_areas(rng, draft):
     draft.m, draft.n = max(0, draft.m - m), max(0, draft.n - n)
 
 
-FAULTS = (truncate, spoil_map, spoil_value, spoil_amount, spoil_count, widen, lower_cell, append, shorten_areas)
+FAULTS = (truncate, spoil_map, spoil_value, spoil_amount, spoil_count, lower_cell, append, shorten_areas)
 
 
 # The second contract to write, spoiled in its own ways
@@ -369,13 +330,10 @@ def area_cases(rng):
 def truncation_cases(rng):
     """Every cut of sound and of faulty records: a fault counts only from the end of its field on."""
     records = [joined(fields_of(too_many_rows_early()))[:8], *(joined(fields_of(contract)) for contract in limit_counts(1))]
-    records += [joined(fields_of(contract)) for contract in limit_units(1)] + needless_records()
     records += [example.record for example in examples.examples() if len(example.record) < 120]
     for form in FORMS:
         for faults in (), (), (spoil_value,), (spoil_amount,), (spoil_amount,), (spoil_count,), (spoil_count,):
-            records += [faulty(rng, some_contract(rng, form, standing=True), faults) for _ in range(5)]
-    for faults in (), (spoil_amount,), (spoil_count,):
-        records += [faulty(rng, wide_contract(rng, count, standing=True), faults) for count in (1, 2, 8)]
+            records += [faulty(rng, form, faults) for _ in range(5)]
     yield from in_turn(*(cuts(rng, data) for data in records))
 
 
@@ -383,8 +341,8 @@ def cuts(rng, data):
     return (roomy(rng, "truncation", data[:end]) for end in reversed(range(min(len(data), 110))))
 
 
-def faulty(rng, contract, faults):
-    draft = drafted(rng, contract)
+def faulty(rng, form, faults):
+    draft = drafted(rng, some_contract(rng, form, standing=True))
     for fault in faults:
         fault(rng, draft)
     return draft.record()
@@ -400,9 +358,8 @@ def fault_cases(rng, kind, faults_at_once, count):
 
 
 def map_cases(rng):
-    """Every pattern of the six low bits, with and without bit 7, and each high bit, before fields that some of them ask for."""
-    maps = [*range(64), *(1 << WIDE_BIT | low for low in range(64)), *(1 << bit | 0x0F for bit in range(6, 16))]
-    maps += [rng.getrandbits(16) for _ in range(126)]
+    """Every pattern of the six low bits and each high bit, before fields that some of them ask for."""
+    maps = [*range(64), *(1 << bit | 0x0F for bit in range(6, 16)), *(rng.getrandbits(16) for _ in range(126))]
     yield from (roomy(rng, "bit map", bits.to_bytes(2, "little") + rng.randbytes(rng.randint(0, 30))) for bits in maps)
 
 
@@ -411,8 +368,7 @@ def random_cases(rng):
     for i in range(3_000):
         data = rng.randbytes(rng.randint(0, 70))
         if i % 2:
-            form = rng.choice((1 << 3, 1 << 4, 1 << 5, 1 << 4 | 1 << WIDE_BIT))
-            data = bytes([rng.getrandbits(3) | form, 0, *data[:3], 0, *(b & 7 for b in data[3:])])
+            data = bytes([rng.getrandbits(3) | 1 << rng.randrange(3, 6), 0, *data[:3], 0, *(b & 7 for b in data[3:])])
         yield roomy(rng, "random bytes", data)
 
 
@@ -443,7 +399,7 @@ def limit_cases(rng):
 def limit_contracts():
     """Amounts, totals, units and rows at their limits and one beyond."""
     for over in 0, 1:
-        yield from (*limit_amounts(MOST_MONEY + over), *limit_totals(MOST_MONEY + over), *limit_counts(over), *limit_units(over))
+        yield from (*limit_amounts(MOST_MONEY + over), *limit_totals(MOST_MONEY + over), *limit_counts(over))
 
 
 def limit_amounts(most):
@@ -455,28 +411,16 @@ def limit_totals(most):
     odd = most % 2
     columns = {Header(form=LADDER, count=2): [most - 5, 5],
                Header(form=UNIT_PRICES, count=2, units=record.padded([2, 3])): [(most - 3 * odd) // 2, odd],
-               Header(form=UNIT_PRICES, count=2, units=record.padded([4_000, 1])): [most // 4_000, most % 4_000],
-               Header(form=UNIT_PRICES, count=2, units=record.padded([1, 62_500])): [most % 62_500, most // 62_500],
                Header(form=TABLE, count=2, units=record.padded([1, 1])): [0, 1, 2, most]}
     for header, column in columns.items():
         yield Contract(header, column, [0] * len(column))
         yield Contract(header, [0] * len(column), column)
 
 
-def limit_units(over):
-    """Unit prices of 65,535 units together; narrow ones of 1,000, which was the most once, and of 2,040; and where these turn."""
-    for units in ([65_534, 1 + over], [1, 65_534 + over], [255] * 7 + [63_750 + over], [63_750 + over] + [255] * 7,
-                  [8_191] * 7 + [8_198 + over], [32_768, 1, 32_766 + over], [65_535] + [1] * over,
-                  [255, 255, 255, 235 + over], [125] * 7 + [125 + over], [245 + over, 255, 255, 245],
-                  [255 + over] * 8, [255 + over], [1, 255 + over], [255 + over, 1]):
-        yield items_of(units)
-
-
-def items_of(units):
-    return Contract(Header(form=UNIT_PRICES, count=len(units), units=record.padded(units)), [1] * len(units), [2] * len(units))
-
-
 def limit_counts(over):
+    for units in ([255, 255, 255, 235 + over], [125] * 7 + [125 + over], [245 + over, 255, 255, 245]):
+        header = Header(form=UNIT_PRICES, count=len(units), units=record.padded(units))
+        yield Contract(header, [1] * len(units), [2] * len(units))
     for units in ([127 + over], [1, 63 + over], [31 + over, 3], [1, 3, 15 + over], [1, 1, 1, 15 + over], [15, 7 + over]):
         yield table_of(units)
 
@@ -491,56 +435,10 @@ def table_of(units):
     return Contract(Header(form=TABLE, count=len(units), units=record.padded(units)), rows, rows)
 
 
-def wide_cases(rng):
-    """Records of each number of items whose units fields have two bytes: sound, with a fault or two, and written."""
-    for i in range(900):
-        contract = wide_contract(rng, 1 + i % MOST_ITEMS[UNIT_PRICES], standing=rng.random() < 0.5)
-        draft = drafted(rng, contract)
-        for fault in rng.sample(FAULTS, (0, 1, 2)[i // 8 % 3]):
-            fault(rng, draft)
-        second = Writing(with_other_units(rng, contract.header), contract.costs, contract.values, 0)
-        room = some_room(rng, second.header, second.costs, second.values)
-        yield case(rng, "wide", draft.record(), draft.m, draft.n, replace(second, room=room))
-    yield from (roomy(rng, "wide map", data) for data in wide_maps(rng))
-    yield from (roomy(rng, "bit 7 not needed", data + tail) for data in needless_records() for tail in (b"", b"\0", bytes(9)))
-    yield from (roomy(rng, "units of 0", data) for data in units_of_none(rng))
-
-
-def wide_maps(rng):
-    """Bit 7 beside another form than unit prices, beside two forms, and beside each unknown bit, before fields of each form."""
-    for contract in (*(some_contract(rng, form, standing=True) for form in FORMS), wide_contract(rng, 2, standing=True)):
-        fields = fields_of(contract)
-        for bits in (*(forms << FORM_BIT for forms in range(8)), *(1 << bit | 1 << 4 for bit in range(6, 16))):
-            fields[0].number = bits | 1 << WIDE_BIT | 7
-            yield joined(fields)
-
-
-def needless_records():
-    """Bit 7 where no item needs it, up to the most units with which none does; of some the last amount is too large as well."""
-    records = []
-    for units in [1], [255], [1, 2], [255, 255], [3, 1, 255], [255] * 8:
-        for value in 2, MOST_MONEY + 1:
-            fields = fields_of(items_of(units))
-            widened(fields)[-1].number = value
-            records.append(joined(fields))
-    return records
-
-
-def units_of_none(rng):
-    """An item of no units at each place of a wide record, the record whole and cut after that field."""
-    for count in 1, 2, 8:
-        for item in range(count):
-            fields = fields_of(wide_contract(rng, count))
-            at = [i for i, field in enumerate(fields) if field.name == "units"][item]
-            fields[at].number = 0
-            yield joined(fields)
-            yield joined(fields[:at + 1])
-
-
 def large_cases(rng):
     """Ladders of about 1,000 units and tables of many rows."""
     for units in (999, 1_000, 1_001) * 8:
-        costs, values = ([rng.randint(0, MOST_MONEY // MOST_UNITS[LADDER]) for _ in range(units)] for _ in range(2))
+        costs, values = ([rng.randint(0, MOST_MONEY // MOST_UNITS) for _ in range(units)] for _ in range(2))
         contract = Contract(Header(5, 6, 7, LADDER, units), costs, values)
         draft = drafted(rng, contract)
         if rng.random() < 0.5:
@@ -558,7 +456,7 @@ def all_cases(seed):
     return in_turn(example_cases(rng), sound_cases(rng), table_cases(rng), area_cases(rng), truncation_cases(rng),
                    fault_cases(rng, "one fault", 1, 2_400), fault_cases(rng, "two faults", 2, 4_800),
                    fault_cases(rng, "three faults", 3, 900), map_cases(rng), random_cases(rng), flip_cases(rng),
-                   limit_cases(rng), large_cases(rng), wide_cases(rng))
+                   limit_cases(rng), large_cases(rng))
 
 
 def in_turn(*kinds):
@@ -569,6 +467,6 @@ def in_turn(*kinds):
 
 def few_cases():
     """A small batch, one example of each form and of some refusals."""
-    names = ("case-a", "case-f", "case-g", "case-k-short", "case-k-long", "total-over", "seats-4000", "wide-unneeded")
+    names = ("case-a", "case-f", "case-g", "case-k-short", "case-k-long", "total-over")
     rng = random.Random(1)
     return [roomy(rng, "example", example.record) for example in examples.examples() if example.name in names]

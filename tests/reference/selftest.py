@@ -179,60 +179,6 @@ def other_cases():
     expect(len(longest[0]), 2_001, "2U + 1 steps")
 
 
-# 4,000 seats, byte by byte: bits 0, 1, 2, 4 and 7; P, cs and cd; one item, its units in two bytes, cost 80 and value 100 of a unit
-SEATS = bytes.fromhex("9700 407e0500 204e0000 10270000 01 a00f 50000000 64000000")
-SEATS_STEPS = [(500, 60_000), (1_100, 100_000), (1_500, 148_000), (1_980, 180_000), (2_300, 218_400), (2_684, 244_000),
-               (2_940, 274_720), (3_247, 295_200), (3_452, 319_760), (3_697, 336_160), (3_861, 355_760), (4_000, 360_000)]
-ITEM = bytes(8)  # cost and value of a unit, 0 and 0
-
-
-def free_items(*units, size=2):
-    """A record whose items cost nothing and are worth nothing, with units fields of one byte or of two and bit 7."""
-    lines = (n.to_bytes(size, "little") + ITEM for n in units)
-    return bytes([0x90 if size == 2 else 0x10, 0, len(units)]) + b"".join(lines)
-
-
-def written(data):
-    """The record that the writer makes of what is read, or the refusal."""
-    contract = record.parse(data)
-    return contract if isinstance(contract, int) else record.write(contract.header, contract.costs, contract.values, ROOM)
-
-
-def wide_records():
-    expect(planning.plan(SEATS, 16_002, 32_004, 8, 0), steps_reply(SEATS_STEPS, order_of(1)), "4,000 seats")
-    expect([planning.plan(SEATS, *short, 0) for short in ((16_001, 32_004, 8), (16_002, 32_003, 8), (16_002, 32_004, 7))],
-           [refused(8)] * 3, "4,000 seats need 8,001 places and sums")
-    for data, units in (SEATS, 4_000), (free_items(256), 256), (free_items(256, 1), 257), (free_items(1, 256), 257), \
-            (free_items(65_535), 65_535), (free_items(1, 65_534), 65_535), (free_items(*[255] * 7, 63_750), 65_535), \
-            (free_items(255, size=1), 255), (free_items(*[255] * 4, size=1), 1_020), (free_items(*[255] * 8, size=1), 2_040):
-        expect((written(data), planning.all_units(record.parse(data))), (data, units), f"{units} units, read and written again")
-    expect(planning.plan(free_items(*[255] * 4, size=1), 4_082, 8_164, 8, 0), steps_reply([(1_020, 0)], order_of(1, 2, 3, 4)),
-           "1,020 units in a narrow record")
-    longest = planning.plan_of(planning_cases.longest_deal())[0]
-    expect((len(longest), longest[-2][0]), (131_071, 65_535), "2U + 1 steps of 65,535 units")
-
-
-def wide_refusals():
-    for what, number, data in (
-            ("bit 7 alone", 2, b"\x80\0" + free_items(256)[2:]),
-            ("bit 7 beside bit 3", 2, b"\x88\0\1\0" + ITEM), ("bit 7 beside bit 5", 2, b"\xa0\0\1\1\0\0\0"),
-            ("bit 7 beside two forms", 2, b"\x98\0" + free_items(256)[2:]), ("bit 6", 2, b"\xd0\0" + free_items(256)[2:]),
-            ("bit 7 for 255 units", 3, free_items(255)), ("bit 7 for 2,040 units", 3, free_items(*[255] * 8)),
-            ("3 ahead of 7", 3, free_items(255) + b"\0"), ("7 where bit 7 is needed", 7, free_items(256) + b"\0"),
-            ("1 ahead of 3", 1, free_items(255)[:-1]), ("4 ahead of 3", 4, free_items(255)[:-4] + amounts(10 ** 9)),
-            ("half of a units field", 1, free_items(256)[:4]), ("half of a units field of 0", 1, free_items(0)[:4]),
-            ("no units", 5, free_items(0)), ("no units of the second item", 5, free_items(256, 0)[:-8]),
-            ("65,536 units", 5, free_items(65_535, 1)), ("65,536 units, cut after them", 5, free_items(1, 65_535)[:-8]),
-            ("65,535 units, cut after them", 1, free_items(1, 65_534)[:-8]),
-            ("a total of 1,000,000,001", 4, free_items(62_500, 1)[:5] + amounts(16_000, 0) + b"\1\0" + amounts(1, 0)),
-            ("ladders as before", 5, b"\x08\0\xe9\3" + 1_001 * ITEM), ("tables as before", 5, b"\x20\0\1\xff")):
-        expect(record.parse(data), number, what)
-    for units, number in ((0,), 5), ((65_535, 1), 5), ((256, 0), 5), ((65_535,), 0):
-        header = record.Header(form=UNIT_PRICES, count=len(units), units=(*units, *[65_535] * (8 - len(units))))
-        reply = record.write(header, [0, 0], [0, 0], ROOM)
-        expect(reply, number or free_items(*units), f"writing {units}, and no look at the units after them")
-
-
 def orders_by_hand():
     """The order for unit prices: ties, a greater surplus that has to wait, and whole segments, which are not compared."""
     same, first, last = (1, 2, 2), (1, 2, 1), (1, 1, 2)
@@ -671,8 +617,6 @@ def main():
     starts_by_hand()
     case_i()
     other_cases()
-    wide_records()
-    wide_refusals()
     orders_by_hand()
     orders_by_unclipped_bounds()
     refusals_and_areas()

@@ -47,8 +47,8 @@ pub fn check(record: &[u8], plan: Brought, order: &[u8], long_enough: bool) -> R
             ordered(order, 0)?;
             follow(&terms.frame(ladder.all), &ladder, ladder.rises.len(), steps)
         }
-        Form::Items { wide } => {
-            let items = Items::read(rest, wide)?;
+        Form::Items => {
+            let items = Items::read(rest)?;
             let (steps, order) = areas()?;
             ordered(order, items.count)?;
             follow(&terms.frame(items.all), &Runs::new(&items, order), items.units, steps)
@@ -135,8 +135,8 @@ pub fn bounds(record: &[u8], place: usize, order: &[u8], long_enough: bool) -> R
             ordered(areas(ladder.rises.len())?, 0)?;
             (ladder.all, ladder_level(&ladder, place))
         }
-        Form::Items { wide } => {
-            let items = Items::read(rest, wide)?;
+        Form::Items => {
+            let items = Items::read(rest)?;
             let order = areas(items.units)?;
             ordered(order, items.count)?;
             let runs = Runs::new(&items, order);

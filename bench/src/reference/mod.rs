@@ -81,7 +81,7 @@ pub fn plan_fewest_moves(record: &[u8], places: &mut [u8], sums: &mut [u8], orde
 fn plan_with(fewest: Fewest, record: &[u8], areas: Areas) -> i64 {
     let steps = record::head(record).and_then(|(terms, form, rest)| match form {
         Form::Ladder => plan_ladder(fewest, terms, rest, areas),
-        Form::Items { wide } => plan_items(fewest, terms, &Items::read(rest, wide)?, areas),
+        Form::Items => plan_items(fewest, terms, rest, areas),
         Form::Table if fewest == Fewest::Steps => plan_table(terms, rest, areas),
         Form::Table => Err(Table::empty().read(rest).err().unwrap_or(MAP)),
     });
@@ -104,13 +104,14 @@ fn plan_ladder(fewest: Fewest, terms: Terms, rest: &[u8], mut areas: Areas) -> R
     Ok(sparing::write(fewest, &frame, &ladder, ladder.rises.len(), areas.writer()))
 }
 
-fn plan_items(fewest: Fewest, terms: Terms, items: &Items, mut areas: Areas) -> Result<usize, u32> {
+fn plan_items(fewest: Fewest, terms: Terms, rest: &[u8], mut areas: Areas) -> Result<usize, u32> {
+    let items = Items::read(rest)?;
     areas.fit(items.units, 0)?;
     let frame = terms.frame(items.all);
-    let order = choice::choose(items, &frame);
+    let order = choice::choose(&items, &frame);
     let order = decide(order, areas.work)?;
     areas.put_order(order);
-    Ok(sparing::write(fewest, &frame, &Runs::new(items, &order), items.units, areas.writer()))
+    Ok(sparing::write(fewest, &frame, &Runs::new(&items, &order), items.units, areas.writer()))
 }
 
 fn plan_table(terms: Terms, rest: &[u8], mut areas: Areas) -> Result<usize, u32> {

@@ -18,10 +18,6 @@ const MOST: i64 = 1_000_000_000;
 /// Marks a cell that is not given; no amount is as great.
 const BLANK: u32 = u32::MAX;
 pub const MOST_ROWS: usize = 128;
-/// The most units of unit prices, of an item and of all items together.
-const MOST_UNITS: usize = 65_535;
-/// The most units of an item that a units field of one byte holds.
-const MOST_NARROW: i64 = 255;
 
 /// The cost and the value of a place, or of some units.
 #[derive(Clone, Copy, Default)]
@@ -91,10 +87,7 @@ impl Frame {
 #[derive(Clone, Copy)]
 pub enum Form {
     Ladder,
-    /// Unit prices; `wide` if their units fields have two bytes.
-    Items {
-        wide: bool,
-    },
+    Items,
     Table,
 }
 
@@ -112,11 +105,6 @@ impl<'a> Reader<'a> {
 
     fn byte(&mut self) -> Result<u8, u32> {
         Ok(self.take::<1>()?[0])
-    }
-
-    fn units<const WIDTH: usize>(&mut self) -> Result<i64, u32> {
-        let field = self.take::<WIDTH>()?;
-        Ok(field.iter().rev().fold(0, |units, byte| units << 8 | *byte as i64))
     }
 
     fn amount(&mut self) -> Result<i64, u32> {
@@ -150,9 +138,7 @@ pub fn head(record: &[u8]) -> Result<(Terms, Form, &[u8]), u32> {
     let map = u16::from_le_bytes(reader.take()?);
     let form = match map >> 3 {
         1 => Form::Ladder,
-        2 => Form::Items { wide: false },
-        // Bit 7 stands beside bit 4 only.
-        0b1_0010 => Form::Items { wide: true },
+        2 => Form::Items,
         4 => Form::Table,
         _ => return Err(MAP),
     };
@@ -238,16 +224,7 @@ pub struct Items {
 }
 
 impl Items {
-    pub fn read(rest: &[u8], wide: bool) -> Result<Self, u32> {
-        if wide {
-            Items::read_fields::<2>(rest)
-        } else {
-            Items::read_fields::<1>(rest)
-        }
-    }
-
-    /// Units fields have `WIDTH` bytes. Each width has its own loop.
-    fn read_fields<const WIDTH: usize>(rest: &[u8]) -> Result<Self, u32> {
+    pub fn read(rest: &[u8]) -> Result<Self, u32> {
         let mut reader = Reader { rest };
         let count = reader.byte()? as usize;
         if !(1..=8).contains(&count) {
@@ -255,9 +232,9 @@ impl Items {
         }
         let mut items = Items { count, runs: [Run::default(); 8], units: 0, all: Level::default() };
         for run in &mut items.runs[..count] {
-            run.units = reader.units::<WIDTH>()?;
+            run.units = reader.byte()? as i64;
             items.units += run.units as usize;
-            if run.units == 0 || items.units > MOST_UNITS {
+            if run.units == 0 || items.units > 1000 {
                 return Err(RANGE);
             }
             run.cost = reader.amount()?;
@@ -271,17 +248,8 @@ impl Items {
                 return Err(LIMIT);
             }
         }
-        // All items together tell whether the width is needed, so it is judged behind the last of them.
-        if WIDTH == 2 && !items.need_wide() {
-            return Err(VALUE);
-        }
         reader.end()?;
         Ok(items)
-    }
-
-    /// Whether some units do not fit into a field of one byte.
-    fn need_wide(&self) -> bool {
-        self.runs[..self.count].iter().any(|run| run.units > MOST_NARROW)
     }
 }
 

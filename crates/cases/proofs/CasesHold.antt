@@ -74,7 +74,6 @@ answers =
     and (λ n. table_none _ _ _ _ _ n refl and tt)
     and (λ n. table_plan _ _ _ _ _ n _ (record { safe = refl; counted = refl; within = omega arith; found = refl }) and tt)
     and (λ n. table_none _ _ _ _ _ n refl and tt)
-    and (λ o. prices_plan _ _ _ _ _ o _ refl refl refl _ (record { safe = refl; by_rule = refl; first = refl }) and tt)
     and (λ s. prices_plan _ _ _ _ _ s _ refl refl refl _ (record { safe = refl; by_rule = refl; first = refl }) and tt)
     and tt
 

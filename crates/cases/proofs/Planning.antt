@@ -6,7 +6,7 @@ use native.Mathlib.Omega.{arith}
 use lib.ListN.{length}
 use lib.Seq.{take_all}
 use Rattle.contract.specs.Res.{Res, refused, ok}
-use Rattle.contract.specs.Contract.{Contract, most_units}
+use Rattle.contract.specs.Contract.{Contract}
 use Rattle.contract.specs.Parse.{parse}
 use Rattle.contract.specs.Valid.{Valid}
 use Rattle.contract.proofs.ParsedValid.{parsed_valid}
@@ -37,7 +37,7 @@ module _ (bytes : List ℕ) (k : Contract) (read : parse bytes ≡ ok k) where
       (planned : (n : ℕ) (before after : Areas) → 8 ≤ length after.order → Success k n before after → Ends (ok n) after) where
     by_answer : (answer : Res ℕ) (before after : Areas) → Roomy before → Plans (ok k) answer before after → Ends answer after
     by_answer (refused e) before after r p = rw p.0 (impossible p.1.0 after)
-    by_answer (ok n) before after r s = planned n before after (omega (arith, (room most_units (128 * 256) before r).order, s.order_length)) s
+    by_answer (ok n) before after r s = planned n before after (omega (arith, (room 1000 (128 * 256) before r).order, s.order_length)) s
 
     pub planning_ends : PlanningEnds bytes Ends
     planning_ends before after answer r p = by_answer answer before after r (rw (roomy_ahead bytes before r, read) at p)

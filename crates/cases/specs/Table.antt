@@ -1,4 +1,4 @@
--- The paper's cases A to K, and what they do not touch: more questions to the records of A and F, the cases L to O, and the published
+-- The paper's cases A to K, and what they do not touch: more questions to the records of A and F, the cases L, M and N, and the published
 -- stock figure.
 use Rattle.std.specs.Prelude.{List, [], ◌∷◌, ◌++◌, ℕ, pos, neg_ℤ, take}
 use Rattle.contract.specs.Res.{refused, ok}
@@ -113,16 +113,6 @@ first_row_bytes P =
 abbrev pub first_row_of : ℕ → Contract
 first_row_of P = record { price = P; supplier = 1; buyer = 2; form = Table; units = 2 ∷ []; costs = 3 ∷ 5 ∷ 8 ∷ []; values = 2 ∷ 9 ∷ 12 ∷ [] }
 
--- case O's record: the map with bit 7, P, cs, cd, one item; its units in two bytes, its cost and its value
-abbrev pub seats_bytes : List ℕ
-seats_bytes =
-    151 ∷ 0 ∷ 64 ∷ 126 ∷ 5 ∷ 0 ∷ 32 ∷ 78 ∷ 0 ∷ 0 ∷ 16 ∷ 39 ∷ 0 ∷ 0 ∷ 1
-    ∷ 160 ∷ 15 ∷ 80 ∷ 0 ∷ 0 ∷ 0 ∷ 100 ∷ 0 ∷ 0 ∷ 0 ∷ []
-
--- what it says: W8, "A university buys 4,000"
-abbrev pub seats_of : Contract
-seats_of = record { price = 360_000; supplier = 20_000; buyer = 10_000; form = UnitPrices; units = 4_000 ∷ []; costs = 80 ∷ []; values = 100 ∷ [] }
-
 -- the record of the published stock figure, amounts in cents: the map, P, cs, cd, five items; each with its units, cost and value
 abbrev pub stock_bytes : List ℕ
 stock_bytes =
@@ -170,12 +160,6 @@ plan_f = at 1 5 ∷ at 1 10 ∷ at 4 10 ∷ at 4 22 ∷ at 9 22 ∷ []
 -- case M's plan
 abbrev pub plan_m : List State
 plan_m = at 1 1 ∷ at 2 4 ∷ at 4 6 ∷ at 5 10 ∷ at 7 11 ∷ at 7 13 ∷ at 8 13 ∷ []
-
--- case O's plan
-abbrev pub plan_o : List State
-plan_o =
-    at 500 60_000 ∷ at 1_100 100_000 ∷ at 1_500 148_000 ∷ at 1_980 180_000 ∷ at 2_300 218_400 ∷ at 2_684 244_000
-    ∷ at 2_940 274_720 ∷ at 3_247 295_200 ∷ at 3_452 319_760 ∷ at 3_697 336_160 ∷ at 3_861 355_760 ∷ at 4_000 360_000 ∷ []
 
 -- the stock figure's plan
 abbrev pub plan_stock : List State
@@ -264,8 +248,6 @@ cases =
     ∷ record { bytes = first_row_bytes 4; says = ok (first_row_of 4); questions = no_plan 9 ∷ [] }
     ∷ record { bytes = first_row_bytes 10; says = ok (first_row_of 10); questions = plan no_order (at 0 6 ∷ at 1 6 ∷ at 1 8 ∷ at 2 8 ∷ at 2 10 ∷ []) ∷ [] }
     ∷ record { bytes = first_row_bytes 11; says = ok (first_row_of 11); questions = no_plan 9 ∷ [] }
-    -- O
-    ∷ record { bytes = seats_bytes; says = ok seats_of; questions = plan (1 ∷ 0 ∷ 0 ∷ 0 ∷ 0 ∷ 0 ∷ 0 ∷ 0 ∷ []) plan_o ∷ [] }
     -- the stock figure
     ∷ record { bytes = stock_bytes; says = ok stock_of; questions = plan (3 ∷ 5 ∷ 4 ∷ 1 ∷ 2 ∷ 0 ∷ 0 ∷ 0 ∷ []) plan_stock ∷ [] }
     ∷ []

@@ -8,9 +8,9 @@ use Rattle.contract.specs.Contract.{limit}
 use Rattle.contract.specs.Table.{all_within}
 use Rattle.contract.specs.Valid.{units_in_range}
 
-pub units_first : (most u : ℕ) (us : List ℕ) → units_in_range most (u ∷ us) ≡ true → (0 < u) × (u ≤ most) × (units_in_range most us ≡ true)
+pub units_first : (u : ℕ) (us : List ℕ) → units_in_range (u ∷ us) ≡ true → (0 < u) × (u ≤ 255) × (units_in_range us ≡ true)
 unfolding units_in_range
-units_first most u us h = let b = simp and-eq-true_iff at h in (ltb-true 0 u b.0.0, leb-true u most b.0.1, b.1)
+units_first u us h = let b = simp and-eq-true_iff at h in (ltb-true 0 u b.0.0, leb-true u 255 b.0.1, b.1)
 
 pub within_first : (a : ℕ) (rest : List ℕ) → all_within (a ∷ rest) ≡ true → (a ≤ limit) × (all_within rest ≡ true)
 unfolding all_within

@@ -28,17 +28,18 @@ money_length v = go (eqb v 0)
     go false = digits_length 4 v
 
 -- a segment, and all of them
-pub segment_length : (w u c v : ℕ) → length (digits w u ++ digits 4 c ++ digits 4 v) ≡ size w
-segment_length w u c v = simp (length-append, digits_length) (omega arith)
+pub segment_length : (p : Bool) (u c v : ℕ) → length (cond p (digits 1 u) [] ++ digits 4 c ++ digits 4 v) ≡ size p
+segment_length false u c v = simp (length-append, digits_length)
+segment_length true u c v = simp (length-append, digits_length)
 
-pub segments_length : (w : ℕ) (us cs vs : List ℕ) → length us ≡ length cs → length vs ≡ length cs → length (segment_bytes w us cs vs) ≡ length cs * size w
+pub segments_length : (p : Bool) (us cs vs : List ℕ) → length us ≡ length cs → length vs ≡ length cs → length (segment_bytes p us cs vs) ≡ length cs * size p
 unfolding segment_bytes
-segments_length w [] [] vs e f = omega arith
-segments_length w [] (c ∷ cs) vs e f = absurd (omega arith)
-segments_length w (u ∷ us) [] vs e f = absurd (omega arith)
-segments_length w (u ∷ us) (c ∷ cs) [] e f = absurd (omega arith)
-segments_length w (u ∷ us) (c ∷ cs) (v ∷ vs) e f =
-    rw (length-append, segment_length w u c v, segments_length w us cs vs (suc_inj e) (suc_inj f)) (omega arith)
+segments_length p [] [] vs e f = omega arith
+segments_length p [] (c ∷ cs) vs e f = absurd (omega arith)
+segments_length p (u ∷ us) [] vs e f = absurd (omega arith)
+segments_length p (u ∷ us) (c ∷ cs) [] e f = absurd (omega arith)
+segments_length p (u ∷ us) (c ∷ cs) (v ∷ vs) e f =
+    rw (length-append, segment_length p u c v, segments_length p us cs vs (suc_inj e) (suc_inj f)) (omega arith)
 
 -- numbers of w bytes each
 pub digits_all_length : (w : ℕ) (xs : List ℕ) → length (flat_map (digits w) xs) ≡ w * length xs

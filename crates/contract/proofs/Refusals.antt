@@ -10,13 +10,13 @@ use Rattle.area.specs.Entries.{entries}
 use Rattle.grid.specs.Rows.{rows_of, rising}
 use Rattle.grid.specs.Map.{map_size, bits_from, bit_count}
 use Rattle.contract.specs.Res.{Res, refused, ok, bind, test}
-use Rattle.contract.specs.Contract.{limit, most_units}
-use Rattle.contract.specs.Kind.{width_for}
-use Rattle.contract.specs.Field.{Head, field, ranged, money, amount, kind_of, amounts, head_at}
-use Rattle.contract.specs.Segments.{Sums, cost_value, segment, segments, segment_count, units_fields, segment_body}
+use Rattle.contract.specs.Contract.{limit}
+use Rattle.contract.specs.Field.{Head, field, ranged, money, amount, form_of, amounts, head_at}
+use Rattle.contract.specs.Segments.{Sums, cost_value, segment, segments, segment_count, segment_body}
 use Rattle.contract.specs.Table.{part, all_within, units_at, units_of, cells_of, grid_at, grids_at, Layout, table_at, table_end, table_body}
 use Rattle.contract.specs.Parse.{parse, body_at}
-use Rattle.contract.specs.declared.Kind.{Kind}
+use Rattle.contract.specs.declared.Form.{Form}
+use Rattle.contract.specs.declared.Form.TheVariants.{Ladder, UnitPrices, Table}
 
 -- a number from 1 to 7
 abbrev Few : ℕ → Type 0
@@ -83,20 +83,21 @@ unfolding amount
 amount_few s n t i =
     bound _ _ (field_few 4 s i) (λ a. tested 4 (leb a.value limit) _ four (tested 4 (leb (t + n * a.value) limit) _ four value))
 
--- a kind, or whatever follows
-or_else : (k : Kind) (t : Bool) {r : Res Kind} → Numbered r → Numbered (cond t (ok k) r)
-or_else k true h = value
-or_else k false h = h
-
-kind_few : (f : ℕ) → Numbered (kind_of f)
-unfolding kind_of
-kind_few f = or_else Kind.Ladder (eqb f 1) (or_else Kind.Narrow (eqb f 2) (or_else Kind.Wide (eqb f 18) (or_else Kind.Table (eqb f 4) (refusal two))))
+form_few : (f : ℕ) → Numbered (form_of f)
+unfolding form_of
+form_few f = go (eqb f 1) (eqb f 2) (eqb f 4)
+  where
+    go : (a b c : Bool) → Numbered (cond a (ok Ladder) (cond b (ok UnitPrices) (cond c (ok Table) (refused 2))))
+    go true b c = value
+    go false true c = value
+    go false false true = value
+    go false false false = refusal two
 
 head_few : (s : List ℕ) → Numbered (head_at s)
 unfolding head_at amounts
 head_few s =
     bound _ _ (field_few 2 s 0) (λ m.
-    bound _ _ (kind_few _) (λ k.
+    bound _ _ (form_few _) (λ f.
     bound _ _ (money_few _ s _) (λ p.
     bound _ _ (money_few _ s _) (λ a.
     bound _ _ (money_few _ s _) (λ b. value)))))
@@ -107,29 +108,26 @@ rises_few : (s : List ℕ) (c : Sums) (n : ℕ) → Numbered (cost_value s c n)
 unfolding cost_value
 rises_few s c n = bound _ _ (amount_few s n _ _) (λ a. bound _ _ (amount_few s n _ _) (λ b. value))
 
-segment_few : (w : ℕ) (s : List ℕ) (c : Sums) → Numbered (segment w s c)
+segment_few : (p : Bool) (s : List ℕ) (c : Sums) → Numbered (segment p s c)
 unfolding segment
-segment_few zero s c = rises_few s c 1
-segment_few (suc v) s c =
-    bound _ _ (ranged_few (suc v) most_units s _) (λ a. tested 5 (leb (c.units + a.value) most_units) _ five (rises_few s _ _))
+segment_few false s c = rises_few s c 1
+segment_few true s c =
+    bound _ _ (ranged_few 1 255 s _) (λ a. tested 5 (leb (c.units + a.value) 1000) _ five (rises_few s _ _))
 
-segments_few : (w : ℕ) (s : List ℕ) (n : ℕ) (c : Sums) → Numbered (segments w s n c)
+segments_few : (p : Bool) (s : List ℕ) (n : ℕ) (c : Sums) → Numbered (segments p s n c)
 unfolding segments
-segments_few w s zero c = value
-segments_few w s (suc n) c = bound _ _ (segment_few w s c) (λ d. segments_few w s n d)
+segments_few p s zero c = value
+segments_few p s (suc n) c = bound _ _ (segment_few p s c) (λ d. segments_few p s n d)
 
-count_few : (w : ℕ) (s : List ℕ) (i : ℕ) → Numbered (segment_count w s i)
+count_few : (p : Bool) (s : List ℕ) (i : ℕ) → Numbered (segment_count p s i)
 unfolding segment_count
-count_few zero s i = ranged_few 2 1000 s i
-count_few (suc v) s i = ranged_few 1 8 s i
+count_few false s i = ranged_few 2 1000 s i
+count_few true s i = ranged_few 1 8 s i
 
-body_few : (w : ℕ) (s : List ℕ) (h : Head) → Numbered (segment_body w s h)
+body_few : (p : Bool) (s : List ℕ) (h : Head) → Numbered (segment_body p s h)
 unfolding segment_body
-body_few w s h =
-    bound _ _ (count_few w s _) (λ n.
-    bound _ _ (segments_few w s _ _) (λ c.
-    tested 3 (leb w (width_for (units_fields w s n.next n.value))) _ three (
-    tested 7 (eqb c.at (length s)) _ seven value)))
+body_few p s h =
+    bound _ _ (count_few p s _) (λ n. bound _ _ (segments_few p s _ _) (λ c. tested 7 (eqb c.at (length s)) _ seven value))
 
 units_few_lem : (s : List ℕ) (n i : ℕ) → Numbered (units_at s n i)
 unfolding units_at
@@ -165,13 +163,12 @@ table_few s h =
 
 parse_few : (s : List ℕ) → Numbered (parse s)
 unfolding parse
-parse_few s = bound _ _ (head_few s) (λ h. go h.kind h)
+parse_few s = bound _ _ (head_few s) (λ h. go h.form h)
   where
-    go : (k : Kind) (h : Head) → Numbered (body_at k s h)
-    go Kind.Ladder h = body_few 0 s h
-    go Kind.Narrow h = body_few 1 s h
-    go Kind.Wide h = body_few 2 s h
-    go Kind.Table h = table_few s h
+    go : (f : Form) (h : Head) → Numbered (body_at f s h)
+    go Ladder h = body_few false s h
+    go UnitPrices h = body_few true s h
+    go Table h = table_few s h
 
 -- the number of a refusal
 pub refusal_number : (s : List ℕ) (n : ℕ) → parse s ≡ refused n → (0 < n) × (n < 8)

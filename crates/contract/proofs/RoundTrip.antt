@@ -10,7 +10,7 @@ pub mod UnitsTrip
 pub mod GridTrip
 pub mod TableTrip
 use mathlib.Core.Path.{◌≡◌, refl, ap, ◌∙◌}
-use mathlib.Core.Bool.{Bool, true, false, and-eq-true_iff}
+use mathlib.Core.Bool.{true, false, and-eq-true_iff}
 use mathlib.Core.List.{List, flatten, append_assoc}
 use Prim.Native.Nat.{ℕ, zero, suc, ◌≤◌}
 use native.Mathlib.Omega.{arith}
@@ -19,24 +19,20 @@ use borrow.Author.Tests.{leb-true, ltb-true}
 use Rattle.grid.specs.Rows.{rows_of}
 use Rattle.contract.specs.Res.{ok}
 use Rattle.contract.specs.Contract.{Contract}
-use Rattle.contract.specs.Kind.{some_wide, width_for}
-use Rattle.contract.specs.Field.{Head}
-use Rattle.contract.specs.Segments.{segment_body}
 use Rattle.contract.specs.Valid.{Valid, in_range, within_limit, amounts_within, rises, sum}
 use Rattle.contract.specs.Parse.{parse, body_at}
 use Rattle.contract.specs.Serialize.{serialize, body_bytes}
 use Rattle.contract.specs.declared.Form.{Form}
 use Rattle.contract.specs.declared.Form.TheVariants.{Ladder, UnitPrices, Table}
 use Rattle.contract.proofs.RoundTrip.Rest.{cut}
-use Rattle.contract.proofs.RoundTrip.HeadTrip.{kind_in, head_of, head_is, from_body}
-use Rattle.contract.proofs.RoundTrip.SegmentsFit.{AllFit, ladder_fits, held, prices_fit}
-use Rattle.contract.proofs.RoundTrip.SegmentBody.{segments_of, segment_body_lem}
-use Rattle.contract.proofs.Lengths.{body_from}
+use Rattle.contract.proofs.RoundTrip.HeadTrip.{head_of, head_is, from_body}
+use Rattle.contract.proofs.RoundTrip.SegmentsFit.{ladder_fits, prices_fit}
+use Rattle.contract.proofs.RoundTrip.SegmentBody.{segment_body_lem}
 use Rattle.contract.proofs.RoundTrip.TableTrip.{TableFits, table_body_lem}
 
 -- the body of a valid contract is read back
 abbrev BodyTrip : Contract → Type 0
-BodyTrip k = Valid k → body_at (kind_in k) (serialize k) (head_of k) ≡ ok k
+BodyTrip k = Valid k → body_at k.form (serialize k) (head_of k) ≡ ok k
 
 -- the units of a ladder, one a segment
 sum_ones : (n : ℕ) → sum (replicate n 1) ≡ n
@@ -55,28 +51,18 @@ module _ (p a b : ℕ) (us cs vs : List ℕ) where
       let (low, high) = simp and-eq-true_iff at v.range in
       let ((_, (cs-in, cs-total)), (vs-in, vs-total)) = simp and-eq-true_iff at v.within in
       let most : length cs ≤ 1000 = leb-true _ _ high in
-      segment_body_lem 0 (head_of (make Ladder)) (ladder_fits cs vs v.values_counted cs-in vs-in) (omega arith) (ltb-true _ _ low) most (omega (arith, sum_ones (length cs)))
+      segment_body_lem false (head_of (make Ladder)) (ladder_fits cs vs v.values_counted cs-in vs-in) (ltb-true _ _ low) most (omega (arith, sum_ones (length cs)))
       (leb-true _ _ cs-total) (rw (← v.values_counted) (leb-true _ _ vs-total)) (cut _ (simp append_assoc) (from_body (make Ladder)))
       ∙ ap (λ us. ok (record { price = p; supplier = a; buyer = b; form = Ladder; units = us; costs = cs; values = vs })) v.units_counted
 
-  -- unit prices, read at the width with which they were written
-  prices_as : (v : ℕ) → width_for us ≡ suc v → Valid (make UnitPrices) → (h : Head) → h.next ≡ body_from (make UnitPrices)
-      → segment_body (suc v) (serialize (make UnitPrices)) h ≡ ok (segments_of (suc v) h us cs vs)
+  prices_trip : BodyTrip (make UnitPrices)
   unfolding body_bytes in_range within_limit amounts_within flatten
-  prices_as w e v h n =
+  prices_trip v =
       let (((low, high), us-in), all) = simp and-eq-true_iff at v.range in
       let ((_, (cs-in, cs-total)), (vs-in, vs-total)) = simp and-eq-true_iff at v.within in
-      let fits : AllFit (suc w) us cs vs = prices_fit (suc w) (omega arith) (rw e at (held us us-in)) cs vs v.costs_counted v.values_counted us-in cs-in vs-in in
-      segment_body_lem (suc w) h fits (omega (arith, e))
+      segment_body_lem true (head_of (make UnitPrices)) (prices_fit us cs vs v.costs_counted v.values_counted us-in cs-in vs-in)
       (rw v.costs_counted (ltb-true _ _ low)) (rw v.costs_counted (leb-true _ _ high)) (leb-true _ _ all)
-      (leb-true _ _ cs-total) (leb-true _ _ vs-total) (rw n (cut _ (simp (append_assoc, v.costs_counted, e)) (from_body (make UnitPrices))))
-
-  prices_trip : BodyTrip (make UnitPrices)
-  prices_trip v = go (some_wide us) refl
-    where
-      go : (t : Bool) → some_wide us ≡ t → body_at (kind_in (make UnitPrices)) (serialize (make UnitPrices)) (head_of (make UnitPrices)) ≡ ok (make UnitPrices)
-      go true e = rw e (prices_as 1 (rw e) v _ refl)
-      go false e = rw e (prices_as 0 (rw e) v _ refl)
+      (leb-true _ _ cs-total) (leb-true _ _ vs-total) (cut _ (simp (append_assoc, v.costs_counted)) (from_body (make UnitPrices)))
 
   table_trip : BodyTrip (make Table)
   unfolding body_bytes in_range within_limit amounts_within rises flatten

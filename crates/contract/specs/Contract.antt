@@ -11,10 +11,6 @@ use Rattle.contract.specs.declared.Refusal.TheVariants.{Truncated, Map, Value, L
 abbrev pub limit : ℕ
 limit = 1_000_000_000
 
--- "Unit prices take up to 65,535 units of an item and of all items together"
-abbrev pub most_units : ℕ
-most_units = 65_535
-
 -- the number of each refusal
 abbrev pub number_of : Refusal → ℕ
 number_of Truncated = 1

@@ -3,7 +3,8 @@ use Rattle.std.specs.Prelude.{Bool, true, false, cond, List, ℕ, ◌+◌, ◌*�
 use Rattle.area.specs.Entries.{num}
 use Rattle.contract.specs.Res.{Res, refused, ok, bind, test}
 use Rattle.contract.specs.Contract.{limit}
-use Rattle.contract.specs.declared.Kind.{Kind}
+use Rattle.contract.specs.declared.Form.{Form}
+use Rattle.contract.specs.declared.Form.TheVariants.{Ladder, UnitPrices, Table}
 
 -- a number that was read, and the index after it
 pub record At : Type 0 where
@@ -31,30 +32,26 @@ amount s n t i =
     test 4 (leb (t + n * a.value) limit) (
     ok (record { value = t + n * a.value; next = a.next }))))
 
--- the kind that the map's bits from 3 on name: exactly one of bits 3, 4, 5 stands, bit 7 only beside bit 4, and the others are clear; 2: any other
-unfoldable pub kind_of : ℕ → Res Kind
-kind_of f =
-    cond (eqb f 1) (ok Kind.Ladder) (
-    cond (eqb f 2) (ok Kind.Narrow) (
-    cond (eqb f 18) (ok Kind.Wide) (
-    cond (eqb f 4) (ok Kind.Table) (refused 2))))
+-- the form that the map's bits from 3 on name: exactly one of bits 3, 4, 5 stands and bits 6 to 15 are clear; 2: any other
+unfoldable pub form_of : ℕ → Res Form
+form_of f = cond (eqb f 1) (ok Ladder) (cond (eqb f 2) (ok UnitPrices) (cond (eqb f 4) (ok Table) (refused 2)))
 
--- the kind and the three amounts
+-- the form and the three amounts
 pub record Head : Type 0 where
-  pub kind : Kind
+  pub form : Form
   pub price : ℕ
   pub supplier : ℕ
   pub buyer : ℕ
   pub next : ℕ
 
 -- the amounts that bits 0, 1 and 2 of a map m announce
-unfoldable pub amounts : List ℕ → ℕ → Kind → ℕ → Res Head
-amounts s m k i =
+unfoldable pub amounts : List ℕ → ℕ → Form → ℕ → Res Head
+amounts s m f i =
     bind (money (eqb (m % 2) 1) s i) (λ p.
     bind (money (eqb (m / 2 % 2) 1) s p.next) (λ a.
     bind (money (eqb (m / 4 % 2) 1) s a.next) (λ b.
-    ok (record { kind = k; price = p.value; supplier = a.value; buyer = b.value; next = b.next }))))
+    ok (record { form = f; price = p.value; supplier = a.value; buyer = b.value; next = b.next }))))
 
 -- the two-byte map, the refusal 2 that follows it, and the amounts
 unfoldable pub head_at : List ℕ → Res Head
-head_at s = bind (field 2 s 0) (λ m. bind (kind_of (m.value / 8)) (λ k. amounts s m.value k m.next))
+head_at s = bind (field 2 s 0) (λ m. bind (form_of (m.value / 8)) (λ f. amounts s m.value f m.next))

@@ -1,6 +1,5 @@
 pub mod Res
 pub mod Contract
-pub mod Kind
 pub mod Field
 pub mod Segments
 pub mod Table

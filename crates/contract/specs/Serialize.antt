@@ -1,31 +1,36 @@
 -- The record of a contract.
-use Rattle.std.specs.Prelude.{cond, ℕ, ◌+◌, ◌*◌, leb, eqb, length}
+use Rattle.std.specs.Prelude.{Bool, true, false, cond, ℕ, ◌+◌, ◌*◌, leb, eqb, length}
 use mathlib.Core.List.{List, [], ◌∷◌, ◌++◌, flat_map}
 use Rattle.area.specs.Entries.{digits}
 use Rattle.grid.specs.Map.{map_size, standing_cells}
 use Rattle.grid.specs.Cells.{row_map}
 use Rattle.contract.specs.Res.{Res, ok, test}
 use Rattle.contract.specs.Contract.{Contract, entries_in, units_in, contract_of}
-use Rattle.contract.specs.Kind.{kind_bits, width_for, kind_for}
 use Rattle.contract.specs.Valid.{in_range, within_limit, rises, segment_units}
 use Rattle.contract.specs.declared.Form.{Form}
 use Rattle.contract.specs.declared.Form.TheVariants.{Ladder, UnitPrices, Table}
 use Rattle.contract.specs.declared.Header.{Header}
 
--- the map: bits 0, 1, 2 for P, cs, cd where they are not zero, then the kind
+-- the map's bits from 3 on that name a form
+abbrev pub form_bits : Form → ℕ
+form_bits Ladder = 1
+form_bits UnitPrices = 2
+form_bits Table = 4
+
+-- the map: bits 0, 1, 2 for P, cs, cd where they are not zero, then the form
 unfoldable pub map_of : Contract → ℕ
-map_of k = cond (eqb k.price 0) 0 1 + cond (eqb k.supplier 0) 0 2 + cond (eqb k.buyer 0) 0 4 + 8 * kind_bits (kind_for k.form k.units)
+map_of k = cond (eqb k.price 0) 0 1 + cond (eqb k.supplier 0) 0 2 + cond (eqb k.buyer 0) 0 4 + 8 * form_bits k.form
 
 -- P, cs or cd; nothing for 0
 unfoldable pub money_bytes : ℕ → List ℕ
 money_bytes v = cond (eqb v 0) [] (digits 4 v)
 
--- the segments: the units of each in w bytes, none of a ladder's, the cost and the value of a unit
-unfoldable pub segment_bytes : ℕ → List ℕ → List ℕ → List ℕ → List ℕ
-segment_bytes w (u ∷ us) (c ∷ cs) (v ∷ vs) = (digits w u ++ digits 4 c ++ digits 4 v) ++ segment_bytes w us cs vs
-segment_bytes w (u ∷ us) (c ∷ cs) [] = []
-segment_bytes w (u ∷ us) [] vs = []
-segment_bytes w [] cs vs = []
+-- the segments of a ladder (false) or of unit prices (true): the units of an item, the cost and the value of a unit
+unfoldable pub segment_bytes : Bool → List ℕ → List ℕ → List ℕ → List ℕ
+segment_bytes p (u ∷ us) (c ∷ cs) (v ∷ vs) = (cond p (digits 1 u) [] ++ digits 4 c ++ digits 4 v) ++ segment_bytes p us cs vs
+segment_bytes p (u ∷ us) (c ∷ cs) [] = []
+segment_bytes p (u ∷ us) [] vs = []
+segment_bytes p [] cs vs = []
 
 -- a row map and the cells that stand in it; "The writer leaves blank every cell that this rule restores"
 unfoldable pub grid_bytes : List ℕ → List ℕ → List ℕ
@@ -35,8 +40,8 @@ grid_bytes us cells =
 
 -- what follows the amounts, by the form
 unfoldable pub body_bytes : Form → List ℕ → List ℕ → List ℕ → List ℕ
-body_bytes Ladder us cs vs = digits 2 (length cs) ++ segment_bytes 0 (segment_units Ladder us cs) cs vs
-body_bytes UnitPrices us cs vs = digits 1 (length us) ++ segment_bytes (width_for us) us cs vs
+body_bytes Ladder us cs vs = digits 2 (length cs) ++ segment_bytes false (segment_units Ladder us cs) cs vs
+body_bytes UnitPrices us cs vs = digits 1 (length us) ++ segment_bytes true us cs vs
 body_bytes Table us cs vs = digits 1 (length us) ++ flat_map (digits 1) us ++ grid_bytes us cs ++ grid_bytes us vs
 
 -- the record of a contract, as the writer writes it

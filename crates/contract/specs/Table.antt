@@ -6,7 +6,6 @@ use Rattle.grid.specs.Map.{map_size, bits_from, bit_count}
 use Rattle.grid.specs.Cells.{filled}
 use Rattle.contract.specs.Res.{Res, ok, bind, test}
 use Rattle.contract.specs.Contract.{Contract, limit}
-use Rattle.contract.specs.Kind.{form_in}
 use Rattle.contract.specs.Field.{ranged, Head}
 
 -- the bytes from index a up to index e
@@ -76,7 +75,7 @@ table_contract s h t =
       price = h.price;
       supplier = h.supplier;
       buyer = h.buyer;
-      form = form_in h.kind;
+      form = h.form;
       units = units_of s t;
       costs = cells_of s t t.costs;
       values = cells_of s t t.values;

@@ -1,15 +1,15 @@
 -- Which contracts have a record.
 use Rattle.std.specs.Prelude.{◌≡◌, Bool, true, ◌&&◌, List, [], ◌∷◌, ℕ, ◌+◌, ◌*◌, leb, ltb, length, replicate}
 use Rattle.grid.specs.Rows.{rows_of, rising}
-use Rattle.contract.specs.Contract.{Contract, limit, most_units, count_of, units_in, entries_in}
+use Rattle.contract.specs.Contract.{Contract, limit, count_of, units_in, entries_in}
 use Rattle.contract.specs.Table.{all_within}
 use Rattle.contract.specs.declared.Form.{Form}
 use Rattle.contract.specs.declared.Form.TheVariants.{Ladder, UnitPrices, Table}
 
--- whether each item has 1 to the most units
-unfoldable pub units_in_range : ℕ → List ℕ → Bool
-units_in_range most [] = true
-units_in_range most (u ∷ us) = ltb 0 u && leb u most && units_in_range most us
+-- whether each item has 1 to 255 units
+unfoldable pub units_in_range : List ℕ → Bool
+units_in_range [] = true
+units_in_range (u ∷ us) = ltb 0 u && leb u 255 && units_in_range us
 
 -- all units together
 unfoldable pub sum : List ℕ → ℕ
@@ -19,8 +19,8 @@ sum (u ∷ us) = u + sum us
 -- whether count, units and rows are in range: refusal 5
 unfoldable pub in_range : Form → ℕ → List ℕ → Bool
 in_range Ladder n us = ltb 0 n && leb n 1000
-in_range UnitPrices n us = ltb 0 n && leb n 8 && units_in_range most_units us && leb (sum us) most_units
-in_range Table n us = ltb 0 n && leb n 4 && units_in_range 255 us && leb (rows_of us) 128
+in_range UnitPrices n us = ltb 0 n && leb n 8 && units_in_range us && leb (sum us) 1000
+in_range Table n us = ltb 0 n && leb n 4 && units_in_range us && leb (rows_of us) 128
 
 -- the total of amounts, u units of each
 unfoldable pub total : List ℕ → List ℕ → ℕ

@@ -10,15 +10,6 @@ pub enum Form {
     Table,
 }
 
-// How a record lays its contract out: unit prices have units fields of one byte or of two.
-#[derive(Drop)]
-pub enum Kind {
-    Ladder,
-    Narrow,
-    Wide,
-    Table,
-}
-
 // A contract but for its costs and values, which stand in areas of their own.
 #[derive(Drop)]
 pub struct Header {

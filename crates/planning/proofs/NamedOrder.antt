@@ -8,7 +8,7 @@ use native.Mathlib.Omega.{arith}
 use lib.ListN.{length, get_or, take, length-map}
 use lib.Seq.{length-take-le}
 use borrow.Author.Tests.{leb-true, ltb-true, lt-ltb}
-use Rattle.contract.specs.Contract.{limit, most_units}
+use Rattle.contract.specs.Contract.{limit}
 use Rattle.contract.specs.Valid.{Valid, in_range, units_in_range, within_limit, amounts_within, total, sum}
 use Rattle.contract.specs.declared.Form.TheVariants.{UnitPrices}
 use Rattle.exchange.specs.Forms.{in_order, Order}
@@ -25,14 +25,14 @@ use Rattle.planning.proofs.SegmentJoin.{spread_items, along_map, order_deal, fit
 use Rattle.planning.proofs.TablePlan.{sum_is}
 
 -- every item has units
-pub units_some : (us : List ℕ) → units_in_range most_units us ≡ true → (j : ℕ) → j < length us → 0 < at us j
+pub units_some : (us : List ℕ) → units_in_range us ≡ true → (j : ℕ) → j < length us → 0 < at us j
 unfolding units_in_range
 units_some [] e j h = absurd (omega arith)
 units_some (u ∷ us) e zero h = let ((low, _), _) = simp and-eq-true_iff at e in ltb-true _ _ low
 units_some (u ∷ us) e (suc j) h = let (_, rest) = simp and-eq-true_iff at e in units_some us rest j (omega arith)
 
 -- so items that bytes name have units
-have : (us bs : List ℕ) → units_in_range most_units us ≡ true → ((i : ℕ) → i < length bs → (0 < get_or bs i 0) × (get_or bs i 0 ≤ length us))
+have : (us bs : List ℕ) → units_in_range us ≡ true → ((i : ℕ) → i < length bs → (0 < get_or bs i 0) × (get_or bs i 0 ≤ length us))
     → all_have (map (at us) (map (λ b. b - 1) bs)) ≡ true
 unfolding all_have
 have us [] e h = refl
@@ -46,11 +46,11 @@ module _ (s : Sides) (us cs vs : List ℕ) (v : Valid (contract_with UnitPrices 
   unfolding in_range
   few_items = let (((_, high), _), _) = simp and-eq-true_iff at v.range in leb-true _ _ high
 
-  pub units_in_range_lem : units_in_range most_units us ≡ true
+  pub units_in_range_lem : units_in_range us ≡ true
   unfolding in_range
   units_in_range_lem = let ((_, each), _) = simp and-eq-true_iff at v.range in each
 
-  pub few_units : sum us ≤ most_units
+  pub few_units : sum us ≤ 1000
   unfolding in_range
   few_units = let (_, high) = simp and-eq-true_iff at v.range in leb-true _ _ high
 

@@ -10,7 +10,7 @@ use borrow.Author.Tests.{leb-true, le-leb}
 use Rattle.area.specs.Entries.{entries}
 use Rattle.grid.specs.Rows.{rows_of}
 use Rattle.contract.specs.Res.{Res, refused, ok, bind}
-use Rattle.contract.specs.Contract.{Contract, most_units, count_of}
+use Rattle.contract.specs.Contract.{Contract, count_of}
 use Rattle.contract.specs.Parse.{parse}
 use Rattle.contract.specs.Valid.{Valid, sum, in_range}
 use Rattle.contract.proofs.ParsedValid.{parsed_valid}
@@ -31,16 +31,13 @@ more_rows (u ∷ us) =
     omega (arith, mul-le-mul_right u one)
 
 -- what a plan needs at most
-pub record Needs (f : Form) (units costs : List ℕ) : Type 0 where
-  pub few : all_units f units costs ≤ most_units
-  pub work : work_for f units (all_units f units costs) ≤ 128 * 256
+record Needs (f : Form) (units costs : List ℕ) : Type 0 where
+  few : all_units f units costs ≤ 1000
+  work : work_for f units (all_units f units costs) ≤ 128 * 256
 
-pub needs : (f : Form) (units costs : List ℕ) → in_range f (count_of f units costs) units ≡ true → Needs f units costs
+needs : (f : Form) (units costs : List ℕ) → in_range f (count_of f units costs) units ≡ true → Needs f units costs
 unfolding in_range
-needs Ladder units costs e =
-    let (_, high) = simp and-eq-true_iff at e in
-    let few : length costs ≤ 1000 = leb-true _ _ high in
-    record { few = omega arith; work = omega arith }
+needs Ladder units costs e = let (_, high) = simp and-eq-true_iff at e in record { few = leb-true _ _ high; work = omega arith }
 needs UnitPrices units costs e = let (_, high) = simp and-eq-true_iff at e in record { few = leb-true _ _ high; work = omega arith }
 needs Table units costs e =
     let (_, high) = simp and-eq-true_iff at e in
@@ -49,10 +46,10 @@ needs Table units costs e =
     record { few = omega arith; work = mul-le-mul rows all }
 
 -- areas with room for more have room for less
-room_falls : (u bytes : ℕ) (a : Areas) → u ≤ most_units → bytes ≤ 128 * 256 → Roomy a → has_room u bytes a ≡ true
+room_falls : (u bytes : ℕ) (a : Areas) → u ≤ 1000 → bytes ≤ 128 * 256 → Roomy a → has_room u bytes a ≡ true
 unfolding has_room
 room_falls u bytes a h k r =
-    let m = room most_units (128 * 256) a r in
+    let m = room 1000 (128 * 256) a r in
     let places : 2 * u + 1 ≤ length (entries 2 a.places) = omega (arith, m.places) in
     let sums : 2 * u + 1 ≤ length (entries 4 a.sums) = omega (arith, m.sums) in
     let work : bytes ≤ length a.work = omega (arith, m.work) in

@@ -13,7 +13,7 @@ use Rattle.area.specs.Entries.{Bytes, entries}
 use Rattle.area.specs.Filled.{Filled}
 use Rattle.area.proofs.ByteLaws.{Below, below_append, below_zeros, filled_exists}
 use Rattle.contract.specs.Res.{Res, refused, ok}
-use Rattle.contract.specs.Contract.{Contract, limit, most_units}
+use Rattle.contract.specs.Contract.{Contract, limit}
 use Rattle.contract.specs.Valid.{Valid, sum, in_range, within_limit}
 use Rattle.contract.specs.declared.Form.{Form}
 use Rattle.contract.specs.declared.Form.TheVariants.{Ladder, UnitPrices, Table}
@@ -137,7 +137,7 @@ module _ (a : Areas) (b : ByteAreas a) where
   -- ---- along one order
 
   -- a deal whose steps have room, with the order bytes of its contract: it is planned where it is possible, and no plan exists where not
-  module _ (aim : Objective) (k : Contract) (d : Deal) (r : Rising d) (counts : (x y : ℕ) → d.holds x y ≡ leb x y) (few : d.last ≤ most_units) (low : d.price ≤ limit)
+  module _ (aim : Objective) (k : Contract) (d : Deal) (r : Rising d) (counts : (x y : ℕ) → d.holds x y ≡ leb x y) (few : d.last ≤ 1000) (low : d.price ≤ limit)
       (places_room : 2 * d.last + 1 ≤ length (entries 2 a.places)) (sums_room : 2 * d.last + 1 ≤ length (entries 4 a.sums))
       (named : List ℕ) (named_bytes : Bytes named) (blocked : (Possible d → ⊥) → NoPlan k)
       (success : (n : ℕ) (places' sums' : List ℕ) → line.Success aim d n a.places a.sums places' sums'
@@ -160,9 +160,9 @@ module _ (a : Areas) (b : ByteAreas a) where
 
   module _ (aim : Objective) (s : Sides) (cs vs : List ℕ) (v : Valid (contract_with Ladder s [] cs vs))
       (h : room_for (contract_with Ladder s [] cs vs) a ≡ true) where
-    few_rises : length cs ≤ most_units
+    few_rises : length cs ≤ 1000
     unfolding in_range
-    few_rises = let (_, high) = simp and-eq-true_iff at v.range in omega (arith, leb-true (length cs) 1000 high)
+    few_rises = let (_, high) = simp and-eq-true_iff at v.range in leb-true _ _ high
 
     ladder_kept : Kept aim (ok (contract_with Ladder s [] cs vs)) a
     ladder_kept =

@@ -37,7 +37,7 @@ sum_is [] = refl
 sum_is (u ∷ us) = ap (λ (n : ℕ). u + n) (sum_is us)
 
 -- there is a unit
-some_unit : (us : List ℕ) → 0 < length us → units_in_range 255 us ≡ true → 0 < foldr ◌+◌ 0 us
+some_unit : (us : List ℕ) → 0 < length us → units_in_range us ≡ true → 0 < foldr ◌+◌ 0 us
 unfolding units_in_range
 some_unit [] h e = absurd (omega arith)
 some_unit (u ∷ us) h e =

@@ -2,7 +2,7 @@
 use Rattle.std.specs.Prelude.{◌≡◌, Bool, true, ◌&&◌, List, [], ℕ, ◌+◌, ◌*◌, leb, length, replicate}
 use Rattle.area.specs.Entries.{entries}
 use Rattle.grid.specs.Rows.{rows_of}
-use Rattle.contract.specs.Contract.{Contract, most_units}
+use Rattle.contract.specs.Contract.{Contract}
 use Rattle.contract.specs.declared.Form.{Form}
 use Rattle.contract.specs.declared.Form.TheVariants.{Ladder, UnitPrices, Table}
 use Rattle.planning.specs.Deals.{unit_count}
@@ -38,9 +38,9 @@ has_room u bytes a =
 abbrev pub room_for : Contract → Areas → Bool
 room_for k a = has_room (unit_count k) (work_for k.form k.units (unit_count k)) a
 
--- areas with room for a plan of every contract: 65,535 units, and the work bytes of 128 rows with 127 units
+-- areas with room for a plan of every contract: 1,000 units, and the work bytes of 128 rows with 127 units
 abbrev pub Roomy : Areas → Type 0
-Roomy a = has_room most_units (128 * 256) a ≡ true
+Roomy a = has_room 1000 (128 * 256) a ≡ true
 
 -- the areas with the work area all zero
 abbrev pub work_cleared : Areas → Areas

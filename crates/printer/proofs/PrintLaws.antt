@@ -1,57 +1,37 @@
--- Which contracts the printer's areas have room for, and that what planning leaves in them has room in the text. Assumes nothing.
-use mathlib.Core.Path.{◌≡◌, refl, sym, ap}
-use mathlib.Core.Bool.{Bool, true, false, ◌&&◌}
+-- The printer's areas have room for every contract, and what planning leaves in them has room in the text. Assumes nothing.
+use mathlib.Core.Path.{◌≡◌, sym, ap}
 use mathlib.Core.List.{List, []}
 use Prim.Native.Nat.{ℕ, ◌+◌, ◌*◌, ◌-◌, ◌≤◌}
 use native.Mathlib.Omega.{arith}
-use lib.Dec.{leb}
 use lib.ListN.{length, replicate, length-append, length-map, length-replicate}
 use borrow.Author.Tests.{le-leb}
 use Rattle.area.specs.Entries.{entries}
 use Rattle.area.specs.Filled.{Filled}
 use Rattle.area.specs.Puts.{Puts}
 use Rattle.area.proofs.Laws.{entries_length}
-use Rattle.contract.specs.Res.{Res, refused, ok, bind}
+use Rattle.contract.specs.Res.{Res, refused, ok}
 use Rattle.contract.specs.Contract.{Contract, number_of}
-use Rattle.contract.specs.Parse.{parse}
-use Rattle.contract.specs.Valid.{Valid}
 use Rattle.contract.specs.declared.Refusal.{Refusal}
-use Rattle.contract.proofs.ParsedValid.{parsed_valid}
 use Rattle.contract.proofs.ParsedValid.ResLaws.{never}
 use Rattle.exchange.specs.Deal.{State}
 use Rattle.exchange.specs.PlanIn.{plan_in}
 use Rattle.planning.specs.Answer.{answer_of}
-use Rattle.planning.specs.Areas.{Areas, has_room, work_for, room_for}
-use Rattle.planning.specs.Deals.{unit_count}
-use Rattle.planning.specs.Promise.{roomed, ahead, Plans, Success}
+use Rattle.planning.specs.Areas.{Areas, has_room, Roomy}
+use Rattle.planning.specs.Promise.{Plans, Success}
 use Rattle.planning.specs.declared.Planned.{Planned}
-use Rattle.planning.proofs.Room.{needs}
 use Rattle.text.specs.Text.{text}
 use Rattle.text.specs.Code.{Room}
-use Rattle.printer.specs.Printout.{text_for, places_lent, sums_lent, work_lent, lent, printable}
+use Rattle.printer.specs.Printout.{text_for, places_lent, sums_lent, work_lent, lent}
 use Rattle.printer.specs.Code.{Listed, Counted}
 
--- the printer's areas have room for a contract exactly if they hold 2U + 1 steps: no contract needs more order or work bytes
-room_lent : (k : Contract) → Valid k → room_for k lent ≡ leb (2 * unit_count k + 1) 2001
+-- the printer's areas are enough for every contract
+pub roomy : Roomy lent
 unfolding has_room
-room_lent k v =
-    let in_places : length (entries 2 lent.places) ≡ 2001 = omega (arith, entries_length 2 lent.places, length-replicate {A = ℕ} places_lent 0) in
-    let in_sums : length (entries 4 lent.sums) ≡ 2001 = omega (arith, entries_length 4 lent.sums, length-replicate {A = ℕ} sums_lent 0) in
-    let work : work_for k.form k.units (unit_count k) ≤ length lent.work = omega (arith, (needs k.form k.units k.costs v.range).work, length-replicate {A = ℕ} work_lent 0) in
-    rw (in_places, in_sums, le-leb _ _ work) (both (leb (2 * unit_count k + 1) 2001))
-  where
-    both : (b : Bool) → (b && b && true && true) ≡ b
-    both true = refl
-    both false = refl
-
--- so the refusals that stand ahead of 9 are the record's own, and 8 for a deal of more units
-pub lent_ahead : (bytes : List ℕ) → ahead bytes lent ≡ printable (parse bytes)
-unfolding ahead
-lent_ahead bytes = go (parse bytes) refl
-  where
-    go : (x : Res Contract) → parse bytes ≡ x → bind x (λ k. roomed k lent) ≡ printable x
-    go (refused n) e = refl
-    go (ok k) e = rw (room_lent k (parsed_valid bytes k e))
+roomy =
+    let in_places : 2 * 1000 + 1 ≤ length (entries 2 lent.places) = omega (arith, entries_length 2 lent.places, length-replicate {A = ℕ} places_lent 0) in
+    let in_sums : 2 * 1000 + 1 ≤ length (entries 4 lent.sums) = omega (arith, entries_length 4 lent.sums, length-replicate {A = ℕ} sums_lent 0) in
+    let work : 128 * 256 ≤ length lent.work = omega (arith, length-replicate {A = ℕ} work_lent 0) in
+    rw (le-leb _ _ in_places, le-leb _ _ in_sums, le-leb _ _ work)
 
 -- what an area is filled with stands in it
 filled_holds : (w : ℕ) (xs before after : List ℕ) → Filled w xs before after → length xs ≤ length (entries w after)

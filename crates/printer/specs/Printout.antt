@@ -1,12 +1,10 @@
 -- What the plan printer promises of the text that it writes.
-use Rattle.std.specs.Prelude.{List, [], ℕ, ◌+◌, ◌*◌, ◌≤◌, leb, length, replicate}
+use Rattle.std.specs.Prelude.{List, [], ℕ, ◌≤◌, length, replicate}
 use Rattle.area.specs.Puts.{Puts}
-use Rattle.contract.specs.Res.{Res, refused, ok, bind, test}
-use Rattle.contract.specs.Contract.{Contract}
+use Rattle.contract.specs.Res.{Res, refused, ok}
 use Rattle.contract.specs.Parse.{parse}
 use Rattle.exchange.specs.Deal.{State}
 use Rattle.exchange.specs.PlanIn.{plan_in}
-use Rattle.planning.specs.Deals.{unit_count}
 use Rattle.planning.specs.Areas.{Areas, areas}
 use Rattle.planning.specs.Promise.{Plans}
 use Rattle.text.specs.Text.{text}
@@ -40,15 +38,11 @@ work_lent = 32768
 abbrev pub lent : Areas
 lent = areas (replicate places_lent 0) (replicate sums_lent 0) (replicate order_lent 0) (replicate work_lent 0)
 
--- W8: "The printer's areas hold 2,001 steps still, so it prints 8 for a larger deal": after the record's own refusals, 8 where 2U + 1 steps are more
-abbrev pub printable : Res Contract → Res Contract
-printable said = bind said (λ k. test 8 (leb (2 * unit_count k + 1) 2001) (ok k))
-
--- the area begins with the text of an answer and a plan that keep the promise of planning; all later bytes are as they were. Ahead of 9 stand the
--- record's own refusals and 8 for a deal of more units, and no other
+-- the area begins with the text of an answer and a plan that keep the promise of planning; all later bytes are as they were. No refusal but the
+-- record's own stands ahead of 9: the printer's areas are never too short
 pub record Prints (bytes before : List ℕ) (r : ℕ) (after : List ℕ) : Type 0 where
   pub answer : Res ℕ
   pub filled : Areas
-  pub plans : Plans (printable (parse bytes)) answer lent filled
+  pub plans : Plans (parse bytes) answer lent filled
   pub puts : Puts (text_for answer filled.places filled.sums) before 0 r after
   pub fits : r ≤ length after

@@ -7,7 +7,7 @@ use Rattle.contract.specs.Res.{Res, refused, ok}
 use Rattle.contract.specs.Contract.{Contract, number_of, header_of}
 use Rattle.contract.specs.Field.{Head, head_at}
 use Rattle.contract.specs.Parse.{parse, body_at, sized}
-use Rattle.contract.specs.declared.Kind.{Kind}
+use Rattle.contract.specs.declared.Form.{Form}
 use Rattle.contract.specs.declared.Refusal.{Refusal}
 use Rattle.record.specs.Promise.{Reads, answer_of, answer_to}
 use Rattle.record.specs.View.Answer.{refusal}
@@ -30,7 +30,7 @@ pub sized_stop : {r : Res Contract} {n : ℕ} (a b : ℕ) → r ≡ refused n �
 unfolding sized
 sized_stop a b e = rw e
 
--- a record whose head is read goes on by its kind
-pub parse_kind : (s : List ℕ) (h : Head) (k : Kind) → head_at s ≡ ok h → h.kind ≡ k → parse s ≡ body_at k s h
+-- a record whose head is read goes on by its form
+pub parse_form : (s : List ℕ) (h : Head) (f : Form) → head_at s ≡ ok h → h.form ≡ f → parse s ≡ body_at f s h
 unfolding parse
-parse_kind s h k e q = rw e (ap (λ (g : Kind). body_at g s h) q)
+parse_form s h f e q = rw e (ap (λ (g : Form). body_at g s h) q)

@@ -11,8 +11,7 @@ use Rattle.area.proofs.Laws.{column_length}
 use Rattle.contract.specs.Res.{refused}
 use Rattle.contract.specs.Contract.{Contract, number_of}
 use Rattle.contract.specs.Field.{Head}
-use Rattle.contract.specs.Kind.{form_in}
-use Rattle.contract.proofs.FromHeader.{most_entries}
+use Rattle.contract.specs.Serialize.{form_bits}
 use Rattle.contract.specs.Valid.{sum}
 use Rattle.contract.specs.declared.Form.{Form}
 use Rattle.contract.specs.declared.Refusal.{Refusal}
@@ -80,12 +79,12 @@ ladder_other s l f o = absurd (other_none s o (ladder_in s l) f.says refl)
 
 -- two heads that were found name one form
 same_form : (f g : Form) (s : List ℕ) → HeadFound f s → HeadFound g s → f ≡ g
-same_form f g s o p = sym o.form_is ∙ ap (λ (h : Head). form_in h.kind) (ok_inv (sym o.says ∙ p.says)) ∙ p.form_is
+same_form f g s o p = sym o.form_is ∙ ap (λ (h : Head). h.form) (ok_inv (sym o.says ∙ p.says)) ∙ p.form_is
 
 -- unit prices are no table
 two_forms : (s : List ℕ) → HeadFound Form.UnitPrices s → HeadFound Form.Table s → {X : Type 0} → X
 two_forms s o p =
-    let e : ◌≡◌ {A = ℕ} 8 128 = ap most_entries (same_form Form.UnitPrices Form.Table s o p) in
+    let e : ◌≡◌ {A = ℕ} 2 4 = ap form_bits (same_form Form.UnitPrices Form.Table s o p) in
     absurd (omega arith)
 
 pub found_one : (s : List ℕ) (a b : Found) → Finds s a → Finds s b → a ≡ b

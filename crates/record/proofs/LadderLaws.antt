@@ -63,7 +63,7 @@ lifted_end s n c h = let z : n ≡ 0 = omega arith in rw z
 
 -- n units are refused exactly if a total is above the limit
 whole_ladder : (s : List ℕ) (n : ℕ) (c : Sums) → c.at + n * 8 ≤ length s → c.cost ≤ limit → c.value ≤ limit
-    → segments 0 s n c ≡ test 4 (leb (lifted s n c).cost limit) (test 4 (leb (lifted s n c).value limit) (ok (lifted s n c)))
+    → segments false s n c ≡ test 4 (leb (lifted s n c).cost limit) (test 4 (leb (lifted s n c).value limit) (ok (lifted s n c)))
 unfolding segments segment cost_value lifted
 whole_ladder s zero c h a b = simp (le-leb _ _ a, le-leb _ _ b)
 whole_ladder s (suc n) c h a b = go (dec_lt limit (c.cost + num 4 s c.at)) (dec_lt limit (c.value + num 4 s (c.at + 4))) (whole_ladder s n (unit s c))
@@ -78,8 +78,8 @@ whole_ladder s (suc n) c h a b = go (dec_lt limit (c.cost + num 4 s c.at)) (dec_
     tested = test 4 (leb d.cost limit) (test 4 (leb d.value limit) (ok d))
 
     go : Dec (limit < c.cost + num 4 s c.at) → Dec (limit < c.value + num 4 s (c.at + 4))
-        → (c.at + 8 + n * 8 ≤ length s → c.cost + num 4 s c.at ≤ limit → c.value + num 4 s (c.at + 4) ≤ limit → segments 0 s n (unit s c) ≡ tested)
-        → segments 0 s (suc n) c ≡ tested
+        → (c.at + 8 + n * 8 ≤ length s → c.cost + num 4 s c.at ≤ limit → c.value + num 4 s (c.at + 4) ≤ limit → segments false s n (unit s c) ≡ tested)
+        → segments false s (suc n) c ≡ tested
     go (yes l) _ rest = simp (amount_over s c.cost c.at (omega arith) l, lt-leb d.cost limit (omega (arith, r.cost)))
     go (no l) (yes m) rest =
         simp (
@@ -94,16 +94,16 @@ whole_ladder s (suc n) c h a b = go (dec_lt limit (c.cost + num 4 s c.at)) (dec_
 
 -- what the totals d after n units decide
 module _ {s : List ℕ} {n : ℕ} {c d : Sums} (w : Whole s n c) (e : d ≡ lifted s n c) where
-  decided : segments 0 s n c ≡ test 4 (leb d.cost limit) (test 4 (leb d.value limit) (ok d))
+  decided : segments false s n c ≡ test 4 (leb d.cost limit) (test 4 (leb d.value limit) (ok d))
   decided = rw e (whole_ladder s n c w.within w.kept.cost w.kept.value)
 
-  pub cost_over : limit < d.cost → segments 0 s n c ≡ refused 4
+  pub cost_over : limit < d.cost → segments false s n c ≡ refused 4
   cost_over h = decided ∙ simp (lt-leb _ _ h)
 
-  pub value_over : limit < d.value → segments 0 s n c ≡ refused 4
+  pub value_over : limit < d.value → segments false s n c ≡ refused 4
   value_over h = decided ∙ simp (lt-leb _ _ h, refused_either)
 
-  pub both_kept : d.cost ≤ limit → d.value ≤ limit → segments 0 s n c ≡ ok d
+  pub both_kept : d.cost ≤ limit → d.value ≤ limit → segments false s n c ≡ ok d
   both_kept h g = decided ∙ simp (le-leb _ _ h, le-leb _ _ g)
 
   pub reached : d.cost ≤ limit → d.value ≤ limit → Reached s (c.at + n * 8) (ok d)

@@ -4,7 +4,7 @@ use mathlib.Core.Logic.{◌⊎◌, inl, inr}
 use mathlib.Core.Bool.{Bool, true, false, cond}
 use mathlib.Core.List.{List, [], ◌∷◌, ◌++◌, flat_map, append_assoc, append-nil}
 use Prim.Native.Nat.{ℕ, zero, suc, ◌+◌, ◌*◌, ◌≤◌, ◌<◌}
-use native.Mathlib.Nat.{mul_comm, le_of_suc-le-suc}
+use native.Mathlib.Nat.{le_of_suc-le-suc}
 use native.Mathlib.Numerals.{add-one}
 use native.Mathlib.Decide.{le_ind}
 use native.Mathlib.Omega.{arith}
@@ -22,13 +22,14 @@ use Rattle.contract.specs.Serialize.{money_bytes, segment_bytes}
 use Rattle.contract.specs.declared.Header.{Header}
 use Rattle.contract.proofs.Lengths.{segments_length, digits_all_length}
 use Rattle.area.specs.Puts.{Puts}
-use Rattle.record.specs.View.Write.{head_bytes, head_size, each, one_segment, Run, run_bytes}
+use Rattle.record.specs.View.Write.{count_size, head_bytes, each, units_byte, Run, run_bytes}
 
 -- ---- the head
 
-pub head_length : (h : Header) (us : List ℕ) → length (head_bytes h us) ≡ head_size h
+pub head_length : (h : Header) → length (head_bytes h)
+    ≡ 2 + length (money_bytes h.price) + length (money_bytes h.supplier) + length (money_bytes h.buyer) + count_size h.form
 unfolding head_bytes
-head_length h us = simp (length-append, digits_length)
+head_length h = simp (length-append, digits_length)
 
 -- ---- segments
 
@@ -60,34 +61,50 @@ each_stated (u ∷ us) = ap (λ (l : List ℕ). u ∷ l) (each_stated us)
 pub each_past : (us : List ℕ) (n i : ℕ) → n ≤ i → drop i (each us n) ≡ []
 each_past us n i h = drop_of_length-le (each us n) {i = i} (rw each_length h)
 
-segment_cons : (w : ℕ) (us cs vs : List ℕ) (i : ℕ) → i < length us → i < length cs → i < length vs
-    → segment_bytes w (drop i us) (drop i cs) (drop i vs)
-    ≡ one_segment w (get_or us i 0) (get_or cs i 0) (get_or vs i 0) ++ segment_bytes w (drop (i + 1) us) (drop (i + 1) cs) (drop (i + 1) vs)
+segment_cons : (p : Bool) (us cs vs : List ℕ) (i : ℕ) → i < length us → i < length cs → i < length vs
+    → segment_bytes p (drop i us) (drop i cs) (drop i vs)
+    ≡ (cond p (digits 1 (get_or us i 0)) [] ++ digits 4 (get_or cs i 0) ++ digits 4 (get_or vs i 0)) ++ segment_bytes p (drop (i + 1) us) (drop (i + 1) cs) (drop (i + 1) vs)
 unfolding segment_bytes
-segment_cons w us cs vs i a b c = rw (add-one, drop-cons us i 0 a, drop-cons cs i 0 b, drop-cons vs i 0 c)
+segment_cons p us cs vs i a b c = rw (add-one, drop-cons us i 0 a, drop-cons cs i 0 b, drop-cons vs i 0 c)
 
 -- the segments from segment i on
-abbrev pub run_from : ℕ → List ℕ → List ℕ → List ℕ → ℕ → List ℕ
-run_from w us cs vs i = segment_bytes w (drop i (each us (length cs))) (drop i cs) (drop i vs)
+abbrev pub run_from : List ℕ → List ℕ → List ℕ → ℕ → List ℕ
+run_from us cs vs i = segment_bytes (ltb 0 (length us)) (drop i (each us (length cs))) (drop i cs) (drop i vs)
 
-module _ (w : ℕ) (us cs vs : List ℕ) (r : Run w cs vs) where
-  -- one segment more, of u units
-  pub run_turn : (i : ℕ) {u : ℕ} → i < length cs → u ≡ get_or us i 1
-      → run_from w us cs vs i ≡ one_segment w u (get_or cs i 0) (get_or vs i 0) ++ run_from w us cs vs (i + 1)
-  run_turn i h e =
+module _ (us cs vs : List ℕ) (r : Run us cs vs) where
+  stated_byte : (i : ℕ) → i < length cs → cond (ltb 0 (length us)) (digits 1 (get_or (each us (length cs)) i 0)) [] ≡ units_byte us i
+  stated_byte i h = go r.stated
+    where
+      go : (us ≡ []) ⊎ (length us ≡ length cs) → cond (ltb 0 (length us)) (digits 1 (get_or (each us (length cs)) i 0)) [] ≡ units_byte us i
+      go (inl e) =
+          let z : length us ≡ 0 = ap length e in
+          rw (le-ltb 0 (length us) (omega arith), le-ltb i (length us) (omega arith))
+      go (inr e) = rw (lt-ltb 0 (length us) (omega arith), lt-ltb i (length us) (omega arith), each_at us (length cs) i h, default_any us i 1 0 (omega arith))
+
+  -- one segment more
+  pub run_turn : (i : ℕ) → i < length cs
+      → run_from us cs vs i ≡ (units_byte us i ++ digits 4 (get_or cs i 0) ++ digits 4 (get_or vs i 0)) ++ run_from us cs vs (i + 1)
+  run_turn i h =
       let a : i < length (each us (length cs)) = rw each_length h in
-      rw (e, segment_cons w (each us (length cs)) cs vs i a h (omega (arith, r.values_counted)), each_at us (length cs) i h)
+      rw (segment_cons (ltb 0 (length us)) (each us (length cs)) cs vs i a h (omega (arith, r.values_counted)), stated_byte i h)
 
-  pub run_room : {s t : List ℕ} {k j : ℕ} (i : ℕ) {u : ℕ} → i < length cs → u ≡ get_or us i 1 → Left (run_bytes w us cs vs) s k (run_from w us cs vs i) t j → k + length (run_bytes w us cs vs) ≤ length s
-      → j + length (one_segment w u (get_or cs i 0) (get_or vs i 0)) ≤ length t
-  run_room i {u} h e l = left_room (one_segment w u (get_or cs i 0) (get_or vs i 0)) (run_from w us cs vs (i + 1)) l (run_turn i h e)
+  pub run_room : {s t : List ℕ} {k j : ℕ} (i : ℕ) → i < length cs → Left (run_bytes us cs vs) s k (run_from us cs vs i) t j → k + length (run_bytes us cs vs) ≤ length s
+      → j + length (units_byte us i ++ digits 4 (get_or cs i 0) ++ digits 4 (get_or vs i 0)) ≤ length t
+  run_room i h l = left_room (units_byte us i ++ digits 4 (get_or cs i 0) ++ digits 4 (get_or vs i 0)) (run_from us cs vs (i + 1)) l (run_turn i h)
 
-  pub run_none : (i : ℕ) → length cs ≤ i → run_from w us cs vs i ≡ []
+  pub run_none : (i : ℕ) → length cs ≤ i → run_from us cs vs i ≡ []
   unfolding segment_bytes
   run_none i h = rw (each_past us (length cs) i h)
 
-  pub run_length : length (run_bytes w us cs vs) ≡ size w * length cs
-  run_length = segments_length w (each us (length cs)) cs vs (each_length us (length cs)) r.values_counted ∙ mul_comm (length cs) (size w)
+  pub run_length : length (run_bytes us cs vs) ≡ length us + 8 * length cs
+  run_length =
+      segments_length (ltb 0 (length us)) (each us (length cs)) cs vs (each_length us (length cs)) r.values_counted
+      ∙ go r.stated (ltb 0 (length us)) refl
+    where
+      go : (us ≡ []) ⊎ (length us ≡ length cs) → (p : Bool) → ltb 0 (length us) ≡ p → length cs * size p ≡ length us + 8 * length cs
+      go (inl e) true t = absurd (omega (arith, ltb-true 0 (length us) t, ap length e))
+      go (inr e) true t = omega arith
+      go s false t = omega (arith, ltb-false 0 (length us) t)
 
 -- ---- bytes, and numbers of one width
 

@@ -80,12 +80,8 @@ rows_some us {n} e z = go (leb (rows_of us) 128) refl
     go false q = absurd (z (rw q at e))
 
 -- the units that were read have the counted front
-pub units_front : (w : ℕ) (s : List ℕ) (i d n : ℕ) {us : List ℕ} → us ≡ column w s i d n ++ replicate (8 - n) 0 → n ≡ length (take n us)
-units_front w s i d n e = rw (e, take_at (column w s i d n) _ n (column_length w s i d n)) (sym (column_length w s i d n))
-
--- the units at the front of the array
-pub units_taken : (w : ℕ) (s : List ℕ) (i d n : ℕ) {us : List ℕ} → us ≡ column w s i d n ++ replicate (8 - n) 0 → take n us ≡ column w s i d n
-units_taken w s i d n e = rw e (take_at (column w s i d n) _ n (column_length w s i d n))
+pub units_front : (s : List ℕ) (i d n : ℕ) {us : List ℕ} → us ≡ column 1 s i d n ++ replicate (8 - n) 0 → n ≡ length (take n us)
+units_front s i d n e = rw (e, take_at (column 1 s i d n) _ n (column_length 1 s i d n)) (sym (column_length 1 s i d n))
 
 -- the units that were read are those of the units fields
 pub units_read : {s us : List ℕ} {i e : ℕ} → Items s i e → us ≡ column 1 s i 1 (e - i) ++ replicate (8 - (e - i)) 0 → take (e - i) us ≡ part i e s

@@ -1,22 +1,19 @@
 -- Laws of the writer's tests, item by item and amount by amount. Assumes nothing.
 use mathlib.Core.Path.{◌≡◌, refl, sym, ◌∙◌}
-use mathlib.Core.Bool.{Bool, true, false, ◌&&◌, ◌||◌, cond, and-false, and_assoc}
+use mathlib.Core.Bool.{Bool, true, false, ◌&&◌, and-false, and_assoc}
 use mathlib.Core.List.{List, [], ◌∷◌}
 use Prim.Native.Nat.{ℕ, zero, suc, ◌+◌, ◌-◌, ◌*◌, ◌^◌, ◌≤◌, ◌<◌}
 use native.Mathlib.Nat.{le-mul_of_pos_right, mul_comm, mul-le-mul_right}
 use native.Mathlib.Numerals.{add-one}
 use native.Mathlib.Omega.{arith}
-use borrow.Author.Tests.{lt-ltb, le-ltb, le-leb, lt-leb, leb-true, leb-false}
+use borrow.Author.Tests.{lt-ltb, le-leb, lt-leb, leb-true, leb-false}
 use lib.Dec.{ltb, leb}
 use lib.ListN.{length, get_or, drop, replicate, length-replicate, drop_of_length-le}
 use lib.Seq.{drop-cons}
-use Rattle.contract.specs.Contract.{limit, most_units}
-use Rattle.contract.specs.Kind.{kind_bits, some_wide, width_for, kind_for}
+use Rattle.contract.specs.Contract.{limit}
 use Rattle.contract.specs.Table.{all_within}
 use Rattle.contract.specs.Valid.{units_in_range, sum, total, amounts_within}
-use Rattle.contract.specs.declared.Form.{Form}
-use Rattle.contract.specs.declared.Form.TheVariants.{Ladder, UnitPrices, Table}
-use Rattle.contract.specs.declared.Kind.{Kind}
+use Rattle.contract.specs.declared.Form.TheVariants.{Ladder, UnitPrices}
 use Rattle.contract.proofs.FirstEntry.{units_first}
 use Rattle.record.specs.View.Write.{each}
 use Rattle.record.proofs.PutLaws.{each_length, each_at, each_none, each_stated, each_past}
@@ -24,28 +21,18 @@ use Rattle.record.proofs.PutLaws.{each_length, each_at, each_none, each_stated, 
 -- ---- item by item
 
 module _ (us : List ℕ) (i : ℕ) (h : i < length us) where
-  range_cons : (most : ℕ) → units_in_range most (drop i us) ≡ (ltb 0 (get_or us i 0) && leb (get_or us i 0) most && units_in_range most (drop (i + 1) us))
+  range_cons : units_in_range (drop i us) ≡ (ltb 0 (get_or us i 0) && leb (get_or us i 0) 255 && units_in_range (drop (i + 1) us))
   unfolding units_in_range
-  range_cons most = rw (add-one, drop-cons us i 0 h)
+  range_cons = rw (add-one, drop-cons us i 0 h)
 
-  pub range_none : (most : ℕ) → get_or us i 0 ≡ 0 → units_in_range most (drop i us) ≡ false
-  range_none most e = range_cons most ∙ rw e
+  pub range_none : get_or us i 0 ≡ 0 → units_in_range (drop i us) ≡ false
+  range_none e = range_cons ∙ rw e
 
-  pub range_over : (most : ℕ) → most < get_or us i 0 → units_in_range most (drop i us) ≡ false
-  range_over most l = range_cons most ∙ simp (lt-leb (get_or us i 0) most l, and-false)
+  pub range_over : 255 < get_or us i 0 → units_in_range (drop i us) ≡ false
+  range_over l = range_cons ∙ simp (lt-leb (get_or us i 0) 255 l, and-false)
 
-  pub range_turn : (most : ℕ) → (get_or us i 0 ≡ 0 → ⊥) → get_or us i 0 ≤ most → units_in_range most (drop i us) ≡ units_in_range most (drop (i + 1) us)
-  range_turn most n l = range_cons most ∙ rw (lt-ltb 0 (get_or us i 0) (omega arith), le-leb (get_or us i 0) most l)
-
-  wide_cons : some_wide (drop i us) ≡ (ltb 255 (get_or us i 0) || some_wide (drop (i + 1) us))
-  unfolding some_wide
-  wide_cons = rw (add-one, drop-cons us i 0 h)
-
-  pub wide_here : 255 < get_or us i 0 → some_wide (drop i us) ≡ true
-  wide_here l = wide_cons ∙ rw (lt-ltb 255 (get_or us i 0) l)
-
-  pub wide_turn : get_or us i 0 ≤ 255 → some_wide (drop i us) ≡ some_wide (drop (i + 1) us)
-  wide_turn l = wide_cons ∙ rw (le-ltb 255 (get_or us i 0) l)
+  pub range_turn : (get_or us i 0 ≡ 0 → ⊥) → get_or us i 0 ≤ 255 → units_in_range (drop i us) ≡ units_in_range (drop (i + 1) us)
+  range_turn n l = range_cons ∙ rw (lt-ltb 0 (get_or us i 0) (omega arith), le-leb (get_or us i 0) 255 l)
 
   pub sum_turn : sum (drop i us) ≡ get_or us i 0 + sum (drop (i + 1) us)
   unfolding sum
@@ -66,13 +53,9 @@ module _ (us : List ℕ) (i : ℕ) (h : i < length us) where
   within_turn l = within_cons ∙ rw (le-leb (get_or us i 0) limit l)
 
 module _ (us : List ℕ) (i : ℕ) (h : length us ≤ i) where
-  pub range_end : (most : ℕ) → units_in_range most (drop i us) ≡ true
+  pub range_end : units_in_range (drop i us) ≡ true
   unfolding units_in_range
-  range_end most = rw (drop_of_length-le us {i = i} h)
-
-  pub wide_end : some_wide (drop i us) ≡ false
-  unfolding some_wide
-  wide_end = rw (drop_of_length-le us {i = i} h)
+  range_end = rw (drop_of_length-le us {i = i} h)
 
   pub sum_end : sum (drop i us) ≡ 0
   unfolding sum
@@ -104,36 +87,6 @@ last_within xs h = go (leb (get_or xs (length xs - 1) 0) limit) refl
         sym (within_each xs (λ r l. omega (arith, h r l)))
     go false e = sym (within_not xs (length xs - 1) (leb-false _ _ e))
 
--- ---- the width
-
-pub width_two : (us : List ℕ) → some_wide us ≡ true → 2 ≡ width_for us
-width_two us e = rw e
-
-pub width_one : (us : List ℕ) → some_wide us ≡ false → 1 ≡ width_for us
-width_one us e = rw e
-
--- the bits of the map that name the kind
-abbrev pub kind_byte : Form → List ℕ → ℕ
-kind_byte f us = 8 * kind_bits (kind_for f us)
-
-pub kind_ladder : (f : Form) (us : List ℕ) → f ≡ Ladder → 8 ≡ kind_byte f us
-kind_ladder f us e = rw e
-
-pub kind_table : (f : Form) (us : List ℕ) → f ≡ Table → 32 ≡ kind_byte f us
-kind_table f us e = rw e
-
-pub kind_wide : (f : Form) (us : List ℕ) → f ≡ UnitPrices → some_wide us ≡ true → 144 ≡ kind_byte f us
-kind_wide f us e h = rw e go
-  where
-    go : 144 ≡ 8 * kind_bits (cond (some_wide us) Kind.Wide Kind.Narrow)
-    go = rw h
-
-pub kind_narrow : (f : Form) (us : List ℕ) → f ≡ UnitPrices → some_wide us ≡ false → 16 ≡ kind_byte f us
-kind_narrow f us e h = rw e go
-  where
-    go : 16 ≡ 8 * kind_bits (cond (some_wide us) Kind.Wide Kind.Narrow)
-    go = rw h
-
 -- ---- the total
 
 pub product_lt : (u v : ℕ) → u < 2 ^ 16 → v < 2 ^ 32 → u * v < 2 ^ 48
@@ -156,23 +109,23 @@ unfolding total
 total_end us amounts i h = rw (each_past us (length amounts) i h)
 
 -- an amount over the limit lifts the total over it, since each item has a unit
-total_covers : (us amounts : List ℕ) → units_in_range most_units us ≡ true → length us ≡ length amounts → total us amounts ≤ limit → all_within amounts ≡ true
+total_covers : (us amounts : List ℕ) → units_in_range us ≡ true → length us ≡ length amounts → total us amounts ≤ limit → all_within amounts ≡ true
 unfolding total all_within
 total_covers us [] e l h = refl
 total_covers [] (a ∷ amounts) e l h = absurd (omega arith)
 total_covers (u ∷ us) (a ∷ amounts) e l h =
-    let (low, _, more) = units_first most_units u us e in
+    let (low, _, more) = units_first u us e in
     let first : a ≤ u * a = rw mul_comm (le-mul_of_pos_right a low) in
     rw (le-leb a limit (omega arith)) (total_covers us amounts more (omega arith) (omega arith))
 
-total_alone : (us amounts : List ℕ) → units_in_range most_units us ≡ true → length us ≡ length amounts → (all_within amounts && leb (total us amounts) limit) ≡ leb (total us amounts) limit
+total_alone : (us amounts : List ℕ) → units_in_range us ≡ true → length us ≡ length amounts → (all_within amounts && leb (total us amounts) limit) ≡ leb (total us amounts) limit
 total_alone us amounts e l = go (leb (total us amounts) limit) refl
   where
     go : (t : Bool) → leb (total us amounts) limit ≡ t → (all_within amounts && t) ≡ t
     go true h = rw (total_covers us amounts e l (leb-true _ _ h))
     go false h = and-false (all_within amounts)
 
-ones_in_range : (n : ℕ) → units_in_range most_units (replicate n 1) ≡ true
+ones_in_range : (n : ℕ) → units_in_range (replicate n 1) ≡ true
 unfolding units_in_range
 ones_in_range zero = refl
 ones_in_range (suc n) = ones_in_range n
@@ -181,6 +134,6 @@ pub ladder_within : (us amounts : List ℕ) → us ≡ [] → amounts_within Lad
 unfolding amounts_within
 ladder_within us amounts e = rw (e, each_none) (total_alone (replicate (length amounts) 1) amounts (ones_in_range (length amounts)) (length-replicate (length amounts) 1))
 
-pub prices_within : (us amounts : List ℕ) → units_in_range most_units us ≡ true → length us ≡ length amounts → amounts_within UnitPrices us amounts ≡ leb (total (each us (length amounts)) amounts) limit
+pub prices_within : (us amounts : List ℕ) → units_in_range us ≡ true → length us ≡ length amounts → amounts_within UnitPrices us amounts ≡ leb (total (each us (length amounts)) amounts) limit
 unfolding amounts_within
 prices_within us amounts e l = rw (← l, each_stated) (total_alone us amounts e l)

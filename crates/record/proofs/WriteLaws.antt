@@ -1,7 +1,7 @@
 -- What the writer answers, test by test. Assumes nothing.
 use mathlib.Core.Path.{◌≡◌, refl, sym, ap, ◌∙◌}
 use mathlib.Core.Logic.{◌⊎◌, inl, inr}
-use mathlib.Core.Bool.{Bool, true, false, cond, and-eq-true_iff}
+use mathlib.Core.Bool.{true, false, and-eq-true_iff}
 use mathlib.Core.List.{List, [], ◌++◌, flat_map, append_assoc}
 use Prim.Native.Nat.{ℕ, ◌+◌, ◌*◌, ◌≤◌, ◌<◌}
 use native.Mathlib.Nat.{zero-add}
@@ -16,8 +16,6 @@ use Rattle.grid.specs.Cells.{row_map, Sized}
 use Rattle.grid.proofs.MarkLaws.{map_length, map_take}
 use Rattle.contract.specs.Res.{Res, refused}
 use Rattle.contract.specs.Contract.{Contract, number_of, entries_in}
-use Rattle.contract.specs.Kind.{some_wide, width_for}
-use Rattle.contract.specs.Segments.{size}
 use Rattle.contract.specs.Valid.{in_range, within_limit, rises}
 use Rattle.contract.specs.Serialize.{map_of, grid_bytes, body_bytes, serialize, record_of}
 use Rattle.contract.specs.declared.Form.{Form}
@@ -27,9 +25,9 @@ use Rattle.contract.specs.declared.Refusal.{Refusal}
 use Rattle.contract.specs.declared.Refusal.TheVariants.{Short}
 use Rattle.contract.proofs.Lengths.{digits_all_length, bits_are, grid_length}
 use Rattle.area.specs.Puts.{Puts}
-use Rattle.record.specs.View.Write.{counted, items_in, contract_with, Counted, Shaped, Segmented, Tabled, head_bytes, head_size, Run, run_bytes, grid_with, Mapped, Replies}
+use Rattle.record.specs.View.Write.{counted, items_in, contract_with, Counted, Shaped, Segmented, Tabled, head_bytes, Run, run_bytes, grid_with, Mapped, Replies}
 use Rattle.record.specs.declared.Written.{Written}
-use Rattle.record.proofs.PutLaws.{head_length, each_none, each_stated, run_length}
+use Rattle.record.proofs.PutLaws.{each_none, each_stated, run_length}
 use Rattle.record.proofs.CountLaws.{items_length}
 
 -- ---- replies
@@ -78,21 +76,15 @@ shaped {h} {us} amounts c l = go h.form refl
 -- ---- a ladder or unit prices
 
 -- what is known of segments that are to be stored
-pub record Storable (h : Header) (w : ℕ) (us cs vs : List ℕ) : Type 0 where
-  pub run : Run w cs vs
+pub record Storable (h : Header) (us cs vs : List ℕ) : Type 0 where
+  pub run : Run us cs vs
+  pub few_units : length us ≤ 8
   pub few_costs : length cs ≤ 1000
-  pub ready : Ready (contract_with h us cs vs) (head_bytes h us ++ run_bytes w us cs vs)
+  pub ready : Ready (contract_with h us cs vs) (head_bytes h ++ run_bytes us cs vs)
 
-width_few : (us : List ℕ) → width_for us ≤ 2
-width_few us = go (some_wide us)
-  where
-    go : (t : Bool) → cond t 2 1 ≤ 2
-    go true = omega arith
-    go false = omega arith
-
-pub storable : {h : Header} {w : ℕ} {us cs vs : List ℕ} → Segmented h w us cs vs → Storable h w us cs vs
+pub storable : {h : Header} {us cs vs : List ℕ} → Segmented h us cs vs → Storable h us cs vs
 unfolding in_range rises serialize body_bytes head_bytes map_of
-storable {h} {w} {us} {cs} {vs} s = go s.is_run
+storable {h} {us} {cs} {vs} s = go s.is_run
   where
     c : Counted h us cs vs
     c = s.counts
@@ -103,34 +95,37 @@ storable {h} {w} {us} {cs} {vs} s = go s.is_run
     shape : Shaped h.form us cs
     shape = shaped cs c c.costs_counted
 
-    go : ((h.form ≡ Ladder) × (w ≡ 0)) ⊎ ((h.form ≡ UnitPrices) × (w ≡ width_for us)) → Storable h w us cs vs
-    go (inl (e, z)) =
+    go : (h.form ≡ Ladder) ⊎ (h.form ≡ UnitPrices) → Storable h us cs vs
+    go (inl e) =
         let (_, most) = simp and-eq-true_iff at (rw e at c.range) in
         let none : us ≡ [] = rw e at shape in
         let costs : length cs ≡ h.count = rw e at c.costs_counted in
         record {
-          run = record { width = omega arith; values_counted = same };
+          run = record { values_counted = same; stated = inl none };
+          few_units = omega (arith, ap length none);
           few_costs = omega (arith, leb-true h.count 1000 most);
-          ready = record { within = s.within; costs_rise = rw e; values_rise = rw e; bytes_are = rw (e, z, none, each_none, costs) (simp append_assoc) };
+          ready = record { within = s.within; costs_rise = rw e; values_rise = rw e; bytes_are = rw (e, none, each_none, costs) (simp append_assoc) };
         }
-    go (inr (e, z)) =
+    go (inr e) =
         let (((low, most), _), _) = simp and-eq-true_iff at (rw e at c.range) in
         let items : length us ≡ length cs = (rw e at shape).1 in
         let costs : length cs ≡ h.count = rw e at c.costs_counted in
+        let some : 0 < length us = omega (arith, ltb-true 0 h.count low) in
         record {
-          run = record { width = omega (arith, width_few us); values_counted = same };
+          run = record { values_counted = same; stated = inr items };
+          few_units = omega (arith, leb-true h.count 8 most);
           few_costs = omega (arith, leb-true h.count 8 most);
           ready =
               record {
                 within = s.within;
                 costs_rise = rw e;
                 values_rise = rw e;
-                bytes_are = rw (e, z, ← items, each_stated, ← costs, ← items) (simp append_assoc);
+                bytes_are = rw (e, ← items, each_stated, lt-ltb 0 (length us) some, ← costs, ← items) (simp append_assoc);
               };
         }
 
-pub segments_length : {h : Header} {w : ℕ} {us cs vs : List ℕ} → Storable h w us cs vs → length (head_bytes h us ++ run_bytes w us cs vs) ≡ head_size h + size w * length cs
-segments_length {h} {w} {us} {cs} {vs} s = rw (length-append, head_length h us, run_length w us cs vs s.run)
+pub segments_length : {h : Header} {us cs vs : List ℕ} → Storable h us cs vs → length (head_bytes h ++ run_bytes us cs vs) ≡ length (head_bytes h) + length us + 8 * length cs
+segments_length {h} {us} {cs} {vs} s = omega (arith, run_length us cs vs s.run, length-append (head_bytes h) (run_bytes us cs vs))
 
 -- ---- a table
 
@@ -140,7 +135,7 @@ pub record Laid (h : Header) (us cs vs : List ℕ) : Type 0 where
   pub few_units : length us ≤ 4
   pub few_rows : length cs ≤ 128
   pub rows_are : length cs ≡ rows_of us
-  pub bytes_are : serialize (contract_with h us cs vs) ≡ head_bytes h us ++ flat_map (digits 1) us ++ grid_bytes us cs ++ grid_bytes us vs
+  pub bytes_are : serialize (contract_with h us cs vs) ≡ head_bytes h ++ flat_map (digits 1) us ++ grid_bytes us cs ++ grid_bytes us vs
   pub costs_rising : rises h.form us cs ≡ rising us cs (length cs)
   pub values_rising : rises h.form us vs ≡ rising us vs (length vs)
 
@@ -188,7 +183,7 @@ module _ {h : Header} {us cs vs map : List ℕ} (t : Tabled h us cs vs) (cells :
 
 -- a table's record
 abbrev pub table_bytes : Header → List ℕ → List ℕ → List ℕ → List ℕ → List ℕ → List ℕ
-table_bytes h us cost_map cs value_map vs = head_bytes h us ++ flat_map (digits 1) us ++ grid_with cost_map cs ++ grid_with value_map vs
+table_bytes h us cost_map cs value_map vs = head_bytes h ++ flat_map (digits 1) us ++ grid_with cost_map cs ++ grid_with value_map vs
 
 module _ (us cells map : List ℕ) (e : map ≡ row_map us cells (length cells) (map_size (length cells))) where
   grid_is : grid_with map cells ≡ grid_bytes us cells
@@ -213,5 +208,5 @@ module _ {h : Header} {us cost_map cs value_map vs : List ℕ} (m : Mapped h us 
       }
 
   pub table_length : length (table_bytes h us cost_map cs value_map vs)
-      ≡ head_size h + length us + (length cost_map + 4 * bit_count cost_map) + (length value_map + 4 * bit_count value_map)
-  table_length = simp (length-append, head_length h us, digits_all_length, grid_size us cs cost_map m.cost_map_lem, grid_size us vs value_map m.value_map_lem) (omega arith)
+      ≡ length (head_bytes h) + length us + (length cost_map + 4 * bit_count cost_map) + (length value_map + 4 * bit_count value_map)
+  table_length = simp (length-append, digits_all_length, grid_size us cs cost_map m.cost_map_lem, grid_size us vs value_map m.value_map_lem) (omega arith)

@@ -1,9 +1,8 @@
 -- What finding a ladder promises.
-use Rattle.std.specs.Prelude.{◌≡◌, ◌⊎◌, List, [], ℕ, ◌+◌, ◌*◌, ◌≤◌, length}
+use Rattle.std.specs.Prelude.{◌≡◌, ◌⊎◌, false, List, [], ℕ, ◌+◌, ◌*◌, ◌≤◌, length}
 use Rattle.area.specs.Entries.{column}
 use Rattle.contract.specs.Res.{Res, refused, ok, bind}
 use Rattle.contract.specs.Contract.{Contract, number_of}
-use Rattle.contract.specs.Kind.{form_in}
 use Rattle.contract.specs.Field.{Head, head_at}
 use Rattle.contract.specs.Parse.{parse}
 use Rattle.contract.specs.Segments.{segment_body}
@@ -35,19 +34,19 @@ pub record LadderFound (s : List ℕ) (l : Ladder) : Type 0 where
 
 -- what finding reads: the head and, where it names a ladder, what follows it. The head, or the first refusal as far as that goes
 abbrev pub sought_at : Form → List ℕ → Head → Res Head
-sought_at Form.Ladder s h = bind (segment_body 0 s h) (λ k. ok h)
+sought_at Form.Ladder s h = bind (segment_body false s h) (λ k. ok h)
 sought_at Form.UnitPrices s h = ok h
 sought_at Form.Table s h = ok h
 
 -- the same from the first byte on
 unfoldable pub sought : List ℕ → Res Head
-sought s = bind (head_at s) (λ h. sought_at (form_in h.kind) s h)
+sought s = bind (head_at s) (λ h. sought_at h.form s h)
 
 -- another form, which the head names
 pub record HeadFound (f : Form) (s : List ℕ) : Type 0 where
   pub head : Head
   pub says : sought s ≡ ok head
-  pub form_is : form_in head.kind ≡ f
+  pub form_is : head.form ≡ f
 
 -- one of the two other forms
 abbrev pub OtherFound : List ℕ → Type 0

@@ -1,40 +1,14 @@
 // The counts of a header, and whether they are in range.
 ghost use Rattle.std.specs.Prelude.{◌≡◌, cond, ◌≤◌, leb, length};
 ghost use Rattle.grid.specs.Rows.{rows_of};
-ghost use Rattle.contract.specs.Contract.{most_units};
-ghost use Rattle.contract.specs.Kind.{some_wide, width_for};
 ghost use Rattle.contract.specs.Valid.{units_in_range, sum, in_range};
 ghost use Rattle.record.specs.View.Write.{counted, items_in};
 
-use super::field::MOST_UNITS;
 use contract::Form;
 
-const MOST: u16 = MOST_UNITS as u16;
-
-// Whether some item has more than 255 units.
-pub(crate) fn some_wide(units: &[u16]) -> bool
-    ensures { result ≡ some_wide units.now }
-{
-    let mut i = 0;
-    while i < units.len() {
-        if 255 < units[i] {
-            return true;
-        }
-        i += 1;
-    }
-    false
-}
-
-// The bytes of a units field with which unit prices are written: the fewest that do.
-pub(crate) fn width_for(units: &[u16]) -> usize
-    ensures { result ≡ width_for units.now }
-{
-    if some_wide(units) { 2 } else { 1 }
-}
-
-// Whether each item has 1 to the most units.
-fn units_in_range(units: &[u16], most: u16) -> bool
-    ensures { result ≡ units_in_range most units.now }
+// Whether each item has 1 to 255 units.
+fn units_in_range(units: &[u16]) -> bool
+    ensures { result ≡ units_in_range units.now }
 {
     let mut i = 0;
     while i < units.len() {
@@ -42,7 +16,7 @@ fn units_in_range(units: &[u16], most: u16) -> bool
         if u == 0 {
             return false;
         }
-        if most < u {
+        if 255 < u {
             return false;
         }
         i += 1;
@@ -50,11 +24,11 @@ fn units_in_range(units: &[u16], most: u16) -> bool
     true
 }
 
-// Whether all units together are at most 65,535.
+// Whether all units together are at most 1,000.
 fn sum_in_range(units: &[u16]) -> bool
-    ensures { result ≡ leb (sum units.now) most_units }
+    ensures { result ≡ leb (sum units.now) 1000 }
 {
-    let mut left: u16 = MOST;
+    let mut left: u16 = 1000;
     let mut i = 0;
     while i < units.len() {
         let u = units[i];
@@ -72,7 +46,7 @@ fn priced_items(units: &[u16]) -> usize
     requires { length units.now ≤ 8 }
     ensures { result ≡ cond (in_range Form.UnitPrices (length units.now) units.now) (length units.now) 0 }
 {
-    if !units_in_range(units, MOST) {
+    if !units_in_range(units) {
         return 0;
     }
     if !sum_in_range(units) {
@@ -89,7 +63,7 @@ fn table_rows(units: &[u16]) -> usize
     if units.len() == 0 {
         return 0;
     }
-    if !units_in_range(units, 255) {
+    if !units_in_range(units) {
         return 0;
     }
     grid::row_count(units)

@@ -1,16 +1,13 @@
 // Single fields of a record, each with its refusals.
-ghost use Rattle.std.specs.Prelude.{◌≡◌, ◌+◌, ◌≤◌, ◌<◌, length};
+ghost use Rattle.std.specs.Prelude.{◌≡◌, ◌+◌, ◌≤◌, length};
 ghost use Rattle.area.specs.Entries.{num};
-ghost use Rattle.contract.specs.Contract.{limit, most_units};
+ghost use Rattle.contract.specs.Contract.{limit};
 ghost use Rattle.contract.specs.Field.{money, amount};
 ghost use Rattle.record.specs.View.Field.{FieldRead, InRange, Money, Adds};
 
 use contract::Refusal;
 
 pub(crate) const LIMIT: u64 = 1_000_000_000;
-
-// The most units of an item with unit prices, and of all together.
-pub(crate) const MOST_UNITS: u64 = 65_535;
 
 // A number, and the index after it.
 #[derive(Drop)]
@@ -38,14 +35,6 @@ pub(crate) fn half(s: &[u8], at: usize) -> Field
         return Field::Refused(Refusal::Truncated);
     }
     Field::Got(area::num_u16(s, at) as u64, at + 2)
-}
-
-// A units field, of one byte or of two.
-pub(crate) fn units_field(s: &[u8], at: usize, w: usize) -> Field
-    requires { (0 < w) × (w ≤ 2) }
-    ensures { FieldRead w s.now at result }
-{
-    if w == 1 { byte(s, at) } else { half(s, at) }
 }
 
 // The 32-bit number at index i, which lies within the record.
@@ -111,7 +100,7 @@ pub(crate) fn money(s: &[u8], at: usize, present: bool) -> Field
 
 // An amount for each of n units, added to a running total.
 pub(crate) fn amount(s: &[u8], n: u64, total: u64, at: usize) -> Field
-    requires { (n ≤ most_units) × (total ≤ limit) }
+    requires { (n ≤ 1000) × (total ≤ limit) }
     ensures { Adds s.now at (amount s.now n total at) result }
 {
     match word(s, at) {

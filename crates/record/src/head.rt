@@ -1,14 +1,14 @@
 // The map and the three amounts.
 ghost use Rattle.std.specs.Prelude.{◌≡◌};
-ghost use Rattle.contract.specs.Field.{kind_of, amounts, head_at};
-ghost use Rattle.record.specs.View.Head.{view_kind, Heads};
+ghost use Rattle.contract.specs.Field.{form_of, amounts, head_at};
+ghost use Rattle.record.specs.View.Head.{view_form, Heads};
 
 use super::field::{Field, half, money};
-use contract::{Kind, Refusal};
+use contract::{Form, Refusal};
 
 #[derive(Drop)]
 pub(crate) struct Head {
-    pub kind: Kind,
+    pub form: Form,
     pub price: u64,
     pub supplier: u64,
     pub buyer: u64,
@@ -22,37 +22,30 @@ pub(crate) enum HeadReply {
 }
 
 #[derive(Drop)]
-enum KindReply {
+enum FormReply {
     Refused(Refusal),
-    Is(Kind),
+    Is(Form),
 }
 
-// The kind that the map's bits from 3 on name. The wide one stands apart by its own test: four values in one chain become a jump
-// table, and the head is then no longer compiled into its callers.
-fn kind_of(bits: u64) -> KindReply
-    ensures { view_kind result ≡ kind_of bits }
+// The form that the map's bits from 3 on name.
+fn form_of(bits: u64) -> FormReply
+    ensures { view_form result ≡ form_of bits }
 {
-    if 4 < bits {
-        if bits == 18 {
-            return KindReply::Is(Kind::Wide);
-        }
-        return KindReply::Refused(Refusal::Map);
-    }
     if bits == 1 {
-        return KindReply::Is(Kind::Ladder);
+        return FormReply::Is(Form::Ladder);
     }
     if bits == 2 {
-        return KindReply::Is(Kind::Narrow);
+        return FormReply::Is(Form::UnitPrices);
     }
     if bits == 4 {
-        return KindReply::Is(Kind::Table);
+        return FormReply::Is(Form::Table);
     }
-    KindReply::Refused(Refusal::Map)
+    FormReply::Refused(Refusal::Map)
 }
 
 // P, cs and cd, as bits 0, 1 and 2 of the map announce them.
-fn amounts(s: &[u8], map: u64, kind: Kind, at: usize) -> HeadReply
-    ensures { Heads (amounts s.now map kind at) result }
+fn amounts(s: &[u8], map: u64, form: Form, at: usize) -> HeadReply
+    ensures { Heads (amounts s.now map form at) result }
 {
     match money(s, at, map % 2 == 1) {
         Field::Refused(e) => HeadReply::Refused(e),
@@ -61,7 +54,7 @@ fn amounts(s: &[u8], map: u64, kind: Kind, at: usize) -> HeadReply
             Field::Got(supplier, b) => match money(s, b, map / 4 % 2 == 1) {
                 Field::Refused(e) => HeadReply::Refused(e),
                 Field::Got(buyer, next) => HeadReply::Got(Head {
-                    kind,
+                    form,
                     price,
                     supplier,
                     buyer,
@@ -77,9 +70,9 @@ pub(crate) fn head_at(s: &[u8]) -> HeadReply
 {
     match half(s, 0) {
         Field::Refused(e) => HeadReply::Refused(e),
-        Field::Got(map, next) => match kind_of(map / 8) {
-            KindReply::Refused(e) => HeadReply::Refused(e),
-            KindReply::Is(kind) => amounts(s, map, kind, next),
+        Field::Got(map, next) => match form_of(map / 8) {
+            FormReply::Refused(e) => HeadReply::Refused(e),
+            FormReply::Is(form) => amounts(s, map, form, next),
         },
     }
 }

@@ -1,6 +1,5 @@
 // Reads and writes contract records, and finds ladders in theirs.
 ghost use Rattle.std.specs.Prelude.{◌≡◌, length, ◌≤◌};
-ghost use Rattle.contract.specs.Kind.{form_in};
 ghost use Rattle.contract.specs.Parse.{reading};
 ghost use Rattle.record.specs.Find.{Finds};
 ghost use Rattle.record.specs.Promise.{Reads, Writes};
@@ -17,7 +16,7 @@ mod segments;
 mod table;
 mod writer;
 
-use contract::{Form, Header, Kind, Refusal};
+use contract::{Form, Header, Refusal};
 
 // Whether a record was read.
 #[derive(Drop)]
@@ -69,12 +68,11 @@ pub fn read(bytes: &[u8], costs: &mut [u32], values: &mut [u32]) -> Outcome
     match head::head_at(bytes) {
         head::HeadReply::Refused(e) => refuse(e),
         head::HeadReply::Got(h) => {
-            let kind = h.kind;
-            match kind {
-                Kind::Ladder => segments::read_segments(bytes, h, 0, costs, values),
-                Kind::Narrow => segments::read_segments(bytes, h, 1, costs, values),
-                Kind::Wide => segments::read_segments(bytes, h, 2, costs, values),
-                Kind::Table => table::read_table(bytes, h, costs, values),
+            let form = h.form;
+            match form {
+                Form::Ladder => segments::read_segments(bytes, h, false, costs, values),
+                Form::UnitPrices => segments::read_segments(bytes, h, true, costs, values),
+                Form::Table => table::read_table(bytes, h, costs, values),
             }
         }
     }
@@ -87,12 +85,11 @@ pub fn find(bytes: &[u8]) -> Found
     match head::head_at(bytes) {
         head::HeadReply::Refused(e) => Found::Refused(e),
         head::HeadReply::Got(h) => {
-            let kind = h.kind;
-            match kind {
-                Kind::Ladder => rises::find_ladder(bytes, h),
-                Kind::Narrow => Found::UnitPrices,
-                Kind::Wide => Found::UnitPrices,
-                Kind::Table => Found::Table,
+            let form = h.form;
+            match form {
+                Form::Ladder => rises::find_ladder(bytes, h),
+                Form::UnitPrices => Found::UnitPrices,
+                Form::Table => Found::Table,
             }
         }
     }
@@ -135,25 +132,12 @@ fn refuse(e: Refusal) -> Outcome
     }
 }
 
-// The form of each kind of record.
-fn form_in(kind: Kind) -> Form
-    ensures { result ≡ form_in kind }
-{
-    match kind {
-        Kind::Ladder => Form::Ladder,
-        Kind::Narrow => Form::UnitPrices,
-        Kind::Wide => Form::UnitPrices,
-        Kind::Table => Form::Table,
-    }
-}
-
 // A record that was read: its header.
 fn accept(h: head::Head, count: usize, units: [u16; 8]) -> Outcome
     requires { Small (head_of h) × (count ≤ 1000) }
     ensures { result ≡ acceptance (head_of h) count units }
 {
-    let kind = h.kind;
-    let form = form_in(kind);
+    let form = h.form;
     Outcome {
         reply: Reply::Accepted,
         header: Header {

@@ -1,14 +1,12 @@
 // The parts of a record, each stored from an index on. A store answers the index after it.
-ghost use Rattle.std.specs.Prelude.{◌≡◌, cond, ◌+◌, ◌*◌, ◌≤◌, eqb, length, get_or};
-ghost use mathlib.Core.List.{[], flat_map};
+ghost use Rattle.std.specs.Prelude.{◌≡◌, cond, ◌+◌, ◌*◌, ◌≤◌, eqb, length};
+ghost use mathlib.Core.List.{[], ◌++◌, flat_map};
 ghost use Rattle.area.specs.Entries.{digits};
 ghost use Rattle.grid.specs.Map.{bit_count, stands, standing_cells};
+ghost use Rattle.contract.specs.Serialize.{form_bits, map_of, money_bytes};
 ghost use Rattle.area.specs.Puts.{Puts};
-ghost use Rattle.contract.specs.Kind.{kind_bits, kind_for};
-ghost use Rattle.contract.specs.Serialize.{map_of, money_bytes};
-ghost use Rattle.record.specs.View.Write.{contract_with, count_size, head_bytes, head_size, one_segment, Run, run_bytes, grid_with};
+ghost use Rattle.record.specs.View.Write.{contract_with, count_size, head_bytes, units_byte, Run, run_bytes, grid_with};
 
-use super::counts::some_wide;
 use super::rows::ones;
 use contract::{Form, Header};
 
@@ -43,27 +41,21 @@ fn bit(v: u32, b: u16) -> u16
     if v == 0 { 0 } else { b }
 }
 
-// The bits of the map that name the kind: bit 7 stands exactly when some item needs two bytes.
-fn kind_bits(form: Form, units: &[u16]) -> u16
-    ensures { (result ≡ 8 * kind_bits (kind_for form units.now)) × (result ≤ 144) }
+fn form_bit(form: Form) -> u16
+    ensures { (result ≡ 8 * form_bits form) × (result ≤ 32) }
 {
     match form {
         Form::Ladder => 8,
-        Form::UnitPrices => {
-            if some_wide(units) {
-                return 144;
-            }
-            16
-        }
+        Form::UnitPrices => 16,
         Form::Table => 32,
     }
 }
 
-fn map_of(header: Header, units: &[u16]) -> u16
-    ensures { result ≡ map_of (contract_with header units.now [] []) }
+fn map_of(header: Header) -> u16
+    ensures { result ≡ map_of (contract_with header [] [] []) }
 {
     let form = header.form;
-    bit(header.price, 1) + bit(header.supplier, 2) + bit(header.buyer, 4) + kind_bits(form, units)
+    bit(header.price, 1) + bit(header.supplier, 2) + bit(header.buyer, 4) + form_bit(form)
 }
 
 // P, cs or cd; nothing for 0.
@@ -102,12 +94,12 @@ fn count_len(form: Form) -> usize
 }
 
 // The record up to its count.
-pub(crate) fn put_head(out: &mut [u8], header: Header, units: &[u16]) -> usize
-    requires { head_size header ≤ length out.old }
-    ensures { Puts (head_bytes header units.now) out.old 0 result out.new }
+pub(crate) fn put_head(out: &mut [u8], header: Header) -> usize
+    requires { length (head_bytes header) ≤ length out.old }
+    ensures { Puts (head_bytes header) out.old 0 result out.new }
 {
     let form = header.form;
-    let i = put_u16(out, 0, map_of(header, units));
+    let i = put_u16(out, 0, map_of(header));
     let j = put_money(out, i, header.price);
     let k = put_money(out, j, header.supplier);
     let l = put_money(out, k, header.buyer);
@@ -115,7 +107,7 @@ pub(crate) fn put_head(out: &mut [u8], header: Header, units: &[u16]) -> usize
 }
 
 pub(crate) fn head_len(header: Header) -> usize
-    ensures { (result ≡ head_size header) × (result ≤ 16) }
+    ensures { (result ≡ length (head_bytes header)) × (result ≤ 16) }
 {
     let form = header.form;
     2 + money_len(header.price)
@@ -124,52 +116,42 @@ pub(crate) fn head_len(header: Header) -> usize
         + count_len(form)
 }
 
-// The units of segment i: one where none are stated.
-fn stated(units: &[u16], i: usize) -> u16
-    ensures { result ≡ get_or units.now i 1 }
+// The units of segment i, where they are stated.
+fn put_segment_units(out: &mut [u8], at: usize, units: &[u16], i: usize) -> usize
+    requires { at + length (units_byte units.now i) ≤ length out.old }
+    ensures { Puts (units_byte units.now i) out.old at result out.new }
 {
-    if i < units.len() { units[i] } else { 1 }
+    if i < units.len() {
+        put_u8(out, at, units[i])
+    } else {
+        at
+    }
 }
 
-// A units field of w bytes: none, one or two.
-fn put_field(out: &mut [u8], at: usize, w: usize, v: u16) -> usize
-    requires { (w ≤ 2) × (at + w ≤ length out.old) }
-    ensures { Puts (digits w v) out.old at result out.new }
+fn put_segment(out: &mut [u8], at: usize, units: &[u16], i: usize, cost: u32, value: u32) -> usize
+    requires { at + length (units_byte units.now i ++ digits 4 cost ++ digits 4 value) ≤ length out.old }
+    ensures { Puts (units_byte units.now i ++ digits 4 cost ++ digits 4 value) out.old at result out.new }
 {
-    if w == 0 {
-        return at;
-    }
-    if w == 1 {
-        return put_u8(out, at, v);
-    }
-    put_u16(out, at, v)
-}
-
-fn put_segment(out: &mut [u8], at: usize, w: usize, units: u16, cost: u32, value: u32) -> usize
-    requires { (w ≤ 2) × (at + length (one_segment w units cost value) ≤ length out.old) }
-    ensures { Puts (one_segment w units cost value) out.old at result out.new }
-{
-    let j = put_field(out, at, w, units);
+    let j = put_segment_units(out, at, units, i);
     let k = put_u32(out, j, cost);
     put_u32(out, k, value)
 }
 
-// The segments of a ladder, which state no units, or of unit prices, in w bytes.
+// The segments of a ladder, which state no units, or of unit prices.
 pub(crate) fn put_segments(
     out: &mut [u8],
     at: usize,
-    w: usize,
     units: &[u16],
     costs: &[u32],
     values: &[u32],
 ) -> usize
-    requires { Run w costs.now values.now × (at + length (run_bytes w units.now costs.now values.now) ≤ length out.old) }
-    ensures { Puts (run_bytes w units.now costs.now values.now) out.old at result out.new }
+    requires { Run units.now costs.now values.now × (at + length (run_bytes units.now costs.now values.now) ≤ length out.old) }
+    ensures { Puts (run_bytes units.now costs.now values.now) out.old at result out.new }
 {
     let mut j = at;
     let mut i = 0;
     while i < costs.len() {
-        j = put_segment(out, j, w, stated(units, i), costs[i], values[i]);
+        j = put_segment(out, j, units, i, costs[i], values[i]);
         i += 1;
     }
     j

@@ -11,7 +11,7 @@ pub(crate) fn find_ladder(s: &[u8], h: Head) -> Found
     requires { LadderHead s.now (head_of h) }
     ensures { Finds s.now result }
 {
-    match find_segments(s, h.next, 0) {
+    match find_segments(s, h.next, false) {
         RunReply::Refused(e) => Found::Refused(e),
         RunReply::Found(p) => Found::Ladder(Ladder {
             price: h.price as u32,

@@ -1,6 +1,6 @@
 // Units of items, row maps and cells.
-ghost use Rattle.std.specs.Prelude.{◌≡◌, ◌&&◌, ◌++◌, ◌+◌, ◌-◌, ◌≤◌, ◌<◌, leb, length, drop, replicate};
-ghost use Rattle.area.specs.Entries.{num, column, entries};
+ghost use Rattle.std.specs.Prelude.{◌≡◌, ◌&&◌, ◌++◌, ◌-◌, ◌≤◌, leb, length, drop, replicate};
+ghost use Rattle.area.specs.Entries.{column, entries};
 ghost use Rattle.grid.specs.Map.{bit_count};
 ghost use Rattle.grid.specs.Rows.{LastLargest};
 ghost use Rattle.contract.specs.Contract.{limit};
@@ -9,28 +9,16 @@ ghost use Rattle.record.specs.View.Spaced.{Spaced};
 
 use super::field::{LIMIT, number};
 
-// The number in w bytes at index i, one or two, which lie within the record.
-fn narrow(s: &[u8], i: usize, w: usize) -> u16
-    requires { (0 < w) × ((w ≤ 2) × (i + w ≤ length s.now)) }
-    ensures { result ≡ num w s.now i }
-{
-    if w == 1 {
-        s[i] as u16
-    } else {
-        area::num_u16(s, i)
-    }
-}
-
-// The units of n items in w bytes, each `step` bytes after the one before, then zeros.
-pub(crate) fn units_of(s: &[u8], at: usize, w: usize, step: usize, n: usize) -> [u16; 8]
-    requires { (0 < w) × ((w ≤ 2) × (Spaced w s.now at step n × (n ≤ 8))) }
-    ensures { result ≡ column w s.now at step n ++ replicate (8 - n) 0 }
+// The units of n items, each `step` bytes after the one before, then zeros.
+pub(crate) fn units_of(s: &[u8], at: usize, step: usize, n: usize) -> [u16; 8]
+    requires { Spaced 1 s.now at step n × (n ≤ 8) }
+    ensures { result ≡ column 1 s.now at step n ++ replicate (8 - n) 0 }
 {
     let mut units = [0u16; 8];
     let mut k: usize = 0;
     let mut i = at;
     while k < n {
-        units[k] = narrow(s, i, w);
+        units[k] = s[i] as u16;
         i += step;
         k += 1;
     }

@@ -1,18 +1,15 @@
 // A ladder's units and items with unit prices: segments, each a run of units with one cost and one value.
-ghost use Rattle.std.specs.Prelude.{◌≡◌, ◌++◌, ◌+◌, ◌*◌, ◌≤◌, ◌<◌, leb, length, drop};
+ghost use Rattle.std.specs.Prelude.{◌≡◌, true, false, ◌++◌, ◌+◌, ◌*◌, ◌≤◌, length, drop};
 ghost use Rattle.area.specs.Entries.{column};
-ghost use Rattle.contract.specs.Segments.{cost_value, segment, segments, segment_body, size, units_fields};
-ghost use Rattle.contract.specs.Contract.{most_units};
-ghost use Rattle.contract.specs.Kind.{width_for};
+ghost use Rattle.contract.specs.Segments.{cost_value, segment, segments, segment_body, size, skip};
 ghost use Rattle.contract.specs.Parse.{sized};
 ghost use Rattle.record.specs.View.Spaced.{Spaced};
 ghost use Rattle.record.specs.View.Head.{head_of, ReadHead};
-ghost use Rattle.record.specs.View.Segments.{sums, Kept, Steps, Whole, lifted, count_size, most, Runs, padded_units, Fields, kind_by};
+ghost use Rattle.record.specs.View.Segments.{sums, Kept, Steps, Whole, lifted, wide, most, Runs, padded_units, segment_form};
 ghost use Rattle.record.specs.View.Field.{Ranged};
 ghost use Rattle.record.specs.Promise.{Reads};
 
-use super::counts::some_wide;
-use super::field::{Field, LIMIT, MOST_UNITS, amount, byte, half, in_range, number, units_field};
+use super::field::{Field, LIMIT, amount, byte, half, in_range, number};
 use super::head::Head;
 use super::rows::units_of;
 use super::{Outcome, accept, refuse};
@@ -35,7 +32,7 @@ pub(crate) enum Step {
 
 // The cost and the value of each of n units.
 fn cost_value(s: &[u8], c: Cursor, n: u64) -> Step
-    requires { (n ≤ most_units) × Kept (sums c) }
+    requires { (n ≤ 1000) × Kept (sums c) }
     ensures { Steps s.now (c.at + 8) (cost_value s.now (sums c) n) result }
 {
     match amount(s, n, c.cost, c.at) {
@@ -52,16 +49,16 @@ fn cost_value(s: &[u8], c: Cursor, n: u64) -> Step
     }
 }
 
-// An item with unit prices, its units in w bytes.
-fn item(s: &[u8], c: Cursor, w: usize) -> Step
-    requires { (0 < w) × ((w ≤ 2) × Kept (sums c)) }
-    ensures { Steps s.now (c.at + size w) (segment w s.now (sums c)) result }
+// An item with unit prices.
+fn item(s: &[u8], c: Cursor) -> Step
+    requires { Kept (sums c) }
+    ensures { Steps s.now (c.at + 9) (segment true s.now (sums c)) result }
 {
-    match in_range(units_field(s, c.at, w), MOST_UNITS) {
+    match in_range(byte(s, c.at), 255) {
         Field::Refused(e) => Step::Refused(e),
         Field::Got(n, next) => {
             let units = c.units + n;
-            if MOST_UNITS < units {
+            if 1000 < units {
                 return Step::Refused(Refusal::Range);
             }
             cost_value(
@@ -79,26 +76,26 @@ fn item(s: &[u8], c: Cursor, w: usize) -> Step
 }
 
 // A unit of a ladder, or an item with unit prices.
-fn segment(s: &[u8], c: Cursor, w: usize) -> Step
-    requires { (w ≤ 2) × Kept (sums c) }
-    ensures { Steps s.now (c.at + size w) (segment w s.now (sums c)) result }
+fn segment(s: &[u8], c: Cursor, priced: bool) -> Step
+    requires { Kept (sums c) }
+    ensures { Steps s.now (c.at + size priced) (segment priced s.now (sums c)) result }
 {
-    if w == 0 {
-        cost_value(s, c, 1)
+    if priced {
+        item(s, c)
     } else {
-        item(s, c, w)
+        cost_value(s, c, 1)
     }
 }
 
 // n segments, one after the other.
-fn segments(s: &[u8], c: Cursor, n: u64, w: usize) -> Step
-    requires { (w ≤ 2) × ((c.at ≤ length s.now) × Kept (sums c)) }
-    ensures { Steps s.now (c.at + n * size w) (segments w s.now n (sums c)) result }
+fn segments(s: &[u8], c: Cursor, n: u64, priced: bool) -> Step
+    requires { (c.at ≤ length s.now) × Kept (sums c) }
+    ensures { Steps s.now (c.at + n * size priced) (segments priced s.now n (sums c)) result }
 {
     let mut d = c;
     let mut left = n;
     while 0 < left {
-        match segment(s, d, w) {
+        match segment(s, d, priced) {
             Step::Refused(e) => {
                 return Step::Refused(e);
             }
@@ -137,7 +134,7 @@ fn totals(s: &[u8], c: Cursor, n: u64) -> Cursor
 // n units of a ladder that lie within the record: no total falls, so the last ones decide.
 fn ladder(s: &[u8], c: Cursor, n: u64) -> Step
     requires { Whole s.now n (sums c) }
-    ensures { Steps s.now (c.at + n * 8) (segments 0 s.now n (sums c)) result }
+    ensures { Steps s.now (c.at + n * 8) (segments false s.now n (sums c)) result }
 {
     let d = totals(s, c, n);
     if LIMIT < d.cost {
@@ -150,40 +147,28 @@ fn ladder(s: &[u8], c: Cursor, n: u64) -> Step
 }
 
 // Validates n segments, by the totals alone where that is enough.
-fn validate(s: &[u8], c: Cursor, n: u64, w: usize) -> Step
-    requires { (n ≤ 1000) × ((w ≤ 2) × ((c.at ≤ length s.now) × Kept (sums c))) }
-    ensures { Steps s.now (c.at + n * size w) (segments w s.now n (sums c)) result }
+fn validate(s: &[u8], c: Cursor, n: u64, priced: bool) -> Step
+    requires { (n ≤ 1000) × ((c.at ≤ length s.now) × Kept (sums c)) }
+    ensures { Steps s.now (c.at + n * size priced) (segments priced s.now n (sums c)) result }
 {
-    if 0 < w {
-        return segments(s, c, n, w);
+    if priced {
+        return segments(s, c, n, true);
     }
     if ((s.len() - c.at) as u64) < n * 8 {
-        return segments(s, c, n, 0);
+        return segments(s, c, n, false);
     }
     ladder(s, c, n)
 }
 
 // How many segments there are.
-fn segment_count(s: &[u8], at: usize, w: usize) -> Field
-    ensures { Ranged (count_size w) (most w) s.now at result }
+fn segment_count(s: &[u8], at: usize, priced: bool) -> Field
+    ensures { Ranged (wide priced) (most priced) s.now at result }
 {
-    if w == 0 {
-        in_range(half(s, at), 1000)
-    } else {
+    if priced {
         in_range(byte(s, at), 8)
+    } else {
+        in_range(half(s, at), 1000)
     }
-}
-
-// Whether the units fields of n segments have no more bytes than the units need.
-fn needed(s: &[u8], first: usize, n: usize, w: usize) -> bool
-    requires { Fields w s.now first n }
-    ensures { result ≡ leb w (width_for (units_fields w s.now first n)) }
-{
-    if w < 2 {
-        return true;
-    }
-    let units = units_of(s, first, 2, 10, n);
-    some_wide(&units[..n])
 }
 
 // The segments of a record: how many, where the first begins, and the totals.
@@ -202,11 +187,10 @@ pub(crate) enum RunReply {
 }
 
 // Validates the segments from index at to the record's end.
-pub(crate) fn find_segments(s: &[u8], at: usize, w: usize) -> RunReply
-    requires { w ≤ 2 }
-    ensures { Runs w s.now at result }
+pub(crate) fn find_segments(s: &[u8], at: usize, priced: bool) -> RunReply
+    ensures { Runs priced s.now at result }
 {
-    match segment_count(s, at, w) {
+    match segment_count(s, at, priced) {
         Field::Refused(e) => RunReply::Refused(e),
         Field::Got(n, first) => {
             let c = Cursor {
@@ -215,12 +199,9 @@ pub(crate) fn find_segments(s: &[u8], at: usize, w: usize) -> RunReply
                 cost: 0,
                 value: 0,
             };
-            match validate(s, c, n, w) {
+            match validate(s, c, n, priced) {
                 Step::Refused(e) => RunReply::Refused(e),
                 Step::Next(d) => {
-                    if !needed(s, first, n as usize, w) {
-                        return RunReply::Refused(Refusal::Value);
-                    }
                     if d.at != s.len() {
                         return RunReply::Refused(Refusal::Trailing);
                     }
@@ -252,22 +233,33 @@ fn fill(s: &[u8], at: usize, step: usize, n: usize, costs: &mut [u32], values: &
 }
 
 // Stores the costs and values of n segments, which reach to the record's end.
-fn fill_segments(s: &[u8], first: usize, n: usize, w: usize, costs: &mut [u32], values: &mut [u32])
-    requires { (w ≤ 2) × ((first + n * size w ≡ length s.now) × ((n ≤ length costs.old) × (n ≤ length values.old))) }
-    ensures { (costs.new ≡ column 4 s.now (first + w) (size w) n ++ drop n costs.old) × (values.new ≡ column 4 s.now (first + w + 4) (size w) n ++ drop n values.old) }
+fn fill_segments(
+    s: &[u8],
+    first: usize,
+    n: usize,
+    priced: bool,
+    costs: &mut [u32],
+    values: &mut [u32],
+)
+    requires { (first + n * size priced ≡ length s.now) × ((n ≤ length costs.old) × (n ≤ length values.old)) }
+    ensures { (costs.new ≡ column 4 s.now (first + skip priced) (size priced) n ++ drop n costs.old) × (values.new ≡ column 4 s.now (first + skip priced + 4) (size priced) n ++ drop n values.old) }
 {
-    fill(s, first + w, w + 8, n, costs, values);
+    if priced {
+        fill(s, first + 1, 9, n, costs, values);
+    } else {
+        fill(s, first, 8, n, costs, values);
+    }
 }
 
 // The units of each item; a ladder has none.
-fn segment_units(s: &[u8], first: usize, n: usize, w: usize) -> [u16; 8]
-    requires { Fields w s.now first n }
-    ensures { result ≡ padded_units w s.now first n }
+fn segment_units(s: &[u8], first: usize, n: usize, priced: bool) -> [u16; 8]
+    requires { Spaced 1 s.now first (size priced) n × (n ≤ most priced) }
+    ensures { result ≡ padded_units priced s.now first n }
 {
-    if w == 0 {
-        [0u16; 8]
+    if priced {
+        units_of(s, first, 9, n)
     } else {
-        units_of(s, first, w, w + 8, n)
+        [0u16; 8]
     }
 }
 
@@ -275,14 +267,14 @@ fn segment_units(s: &[u8], first: usize, n: usize, w: usize) -> [u16; 8]
 pub(crate) fn read_segments(
     s: &[u8],
     h: Head,
-    w: usize,
+    priced: bool,
     costs: &mut [u32],
     values: &mut [u32],
 ) -> Outcome
-    requires { (w ≤ 2) × ReadHead (kind_by w) (head_of h) }
-    ensures { Reads (sized (segment_body w s.now (head_of h)) (length costs.old) (length values.old)) costs.old values.old result costs.new values.new }
+    requires { ReadHead (segment_form priced) (head_of h) }
+    ensures { Reads (sized (segment_body priced s.now (head_of h)) (length costs.old) (length values.old)) costs.old values.old result costs.new values.new }
 {
-    match find_segments(s, h.next, w) {
+    match find_segments(s, h.next, priced) {
         RunReply::Refused(e) => refuse(e),
         RunReply::Found(p) => {
             let n = p.count;
@@ -293,8 +285,8 @@ pub(crate) fn read_segments(
                 return refuse(Refusal::Short);
             }
             let first = p.first;
-            fill_segments(s, first, n, w, costs, values);
-            accept(h, n, segment_units(s, first, n, w))
+            fill_segments(s, first, n, priced, costs, values);
+            accept(h, n, segment_units(s, first, n, priced))
         }
     }
 }

@@ -6,7 +6,7 @@ ghost use Rattle.grid.specs.Cells.{Sized};
 ghost use Rattle.contract.specs.Table.{all_within, grids_at, table_at, table_end, table_body};
 ghost use Rattle.contract.specs.Parse.{sized};
 ghost use Rattle.record.specs.View.Head.{head_of, ReadHead};
-ghost use Rattle.contract.specs.declared.Kind.{Kind};
+ghost use Rattle.contract.specs.declared.Form.TheVariants.{Table};
 ghost use Rattle.record.specs.View.Table.{Items, Counted, given_rise, grid_of, Within, RisesIs, Units, Grids, Tables, Laid, layout_of, TableRises, grid_cells, Filled, Working};
 ghost use Rattle.record.specs.Promise.{Reads};
 
@@ -138,7 +138,7 @@ fn grids_at(s: &[u8], first: usize, after: usize) -> LayoutReply
     ensures { Tables s.now (grids_at s.now first after) result }
 {
     let n = after - first;
-    let units = units_of(s, first, 1, 1, n);
+    let units = units_of(s, first, 1, n);
     let rows = grid::row_count(&units[..n]);
     if rows == 0 {
         return LayoutReply::Refused(Refusal::Range);
@@ -212,7 +212,7 @@ fn read_cells(
     ensures { Reads (sized (table_end s.now (head_of h) (layout_of t)) (length costs.old) (length values.old)) costs.old values.old result costs.new values.new }
 {
     let k = t.after - t.units;
-    let units = units_of(s, t.units, 1, 1, k);
+    let units = units_of(s, t.units, 1, k);
     let cg = t.costs;
     let vg = t.values;
     if !fill_cells(s, &units[..k], cg, c) {
@@ -234,7 +234,7 @@ fn read_cells(
 
 // Lends the work areas, which a refusal leaves no trace of.
 fn read_layout(s: &[u8], h: Head, t: Layout, costs: &mut [u32], values: &mut [u32]) -> Outcome
-    requires { ReadHead Kind.Table (head_of h) × Laid s.now (layout_of t) × TableRises s.now t }
+    requires { ReadHead Table (head_of h) × Laid s.now (layout_of t) × TableRises s.now t }
     ensures { Reads (sized (table_end s.now (head_of h) (layout_of t)) (length costs.old) (length values.old)) costs.old values.old result costs.new values.new }
 {
     let n = t.rows;
@@ -245,7 +245,7 @@ fn read_layout(s: &[u8], h: Head, t: Layout, costs: &mut [u32], values: &mut [u3
 
 // Reads what follows the head of a table.
 pub(crate) fn read_table(s: &[u8], h: Head, costs: &mut [u32], values: &mut [u32]) -> Outcome
-    requires { ReadHead Kind.Table (head_of h) }
+    requires { ReadHead Table (head_of h) }
     ensures { Reads (sized (table_body s.now (head_of h)) (length costs.old) (length values.old)) costs.old values.old result costs.new values.new }
 {
     match table_at(s, h.next) {

@@ -6,7 +6,6 @@ ghost use Rattle.contract.specs.Valid.{total, amounts_within, within_limit};
 ghost use Rattle.record.specs.View.Write.{contract_with, Counted, each, Shaped, Segmented, Tabled, Mapped, Answers};
 
 use super::Written;
-use super::counts::width_for;
 use super::field::LIMIT;
 use super::output::{grid_len, head_len, put_grid, put_head, put_segments, put_units};
 use contract::{Form, Header, Refusal};
@@ -99,30 +98,29 @@ pub(crate) fn write_counted(
         return Written::Refused(Refusal::Limit);
     }
     match form {
-        Form::Ladder => write_segments(header, 0, units, costs, values, out),
-        Form::UnitPrices => write_segments(header, width_for(units), units, costs, values, out),
+        Form::Ladder => write_segments(header, units, costs, values, out),
+        Form::UnitPrices => write_segments(header, units, costs, values, out),
         Form::Table => write_table(header, units, costs, values, out),
     }
 }
 
-// Writes a ladder, whose segments state no units, or unit prices, which state them in w bytes.
+// Writes a ladder, whose segments state no units, or unit prices.
 fn write_segments(
     header: Header,
-    w: usize,
     units: &[u16],
     costs: &[u32],
     values: &[u32],
     out: &mut [u8],
 ) -> Written
-    requires { Segmented header w units.now costs.now values.now }
+    requires { Segmented header units.now costs.now values.now }
     ensures { Answers header units.now costs.now values.now out.old result out.new }
 {
-    let n = head_len(header) + (w + 8) * costs.len();
+    let n = head_len(header) + units.len() + 8 * costs.len();
     if out.len() < n {
         return Written::Refused(Refusal::Short);
     }
-    let i = put_head(out, header, units);
-    Written::Bytes(put_segments(out, i, w, units, costs, values))
+    let i = put_head(out, header);
+    Written::Bytes(put_segments(out, i, units, costs, values))
 }
 
 fn write_table(
@@ -174,7 +172,7 @@ fn write_grids(
     if out.len() < n {
         return Written::Refused(Refusal::Short);
     }
-    let i = put_head(out, header, units);
+    let i = put_head(out, header);
     let j = put_units(out, i, units);
     let k = put_grid(out, j, cost_map, costs);
     Written::Bytes(put_grid(out, k, value_map, values))

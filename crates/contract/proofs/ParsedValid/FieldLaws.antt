@@ -9,8 +9,8 @@ use borrow.Author.Tests.{leb-true}
 use Rattle.area.specs.Entries.{num}
 use Rattle.contract.specs.Res.{ok}
 use Rattle.contract.specs.Contract.{limit}
-use Rattle.contract.specs.Field.{At, field, ranged, money, amount, kind_of, Head, amounts, head_at}
-use Rattle.contract.specs.declared.Kind.{Kind}
+use Rattle.contract.specs.Field.{At, field, ranged, money, amount, form_of, Head, amounts, head_at}
+use Rattle.contract.specs.declared.Form.{Form}
 use Rattle.contract.proofs.ParsedValid.ResLaws.{ok_inv, bind_inv, test_inv, Gives, passed}
 
 -- the number of w bytes at index i, and the index after it
@@ -65,9 +65,9 @@ pub record HeadWithin (price supplier buyer : ℕ) : Type 0 where
   pub supplier_within : leb supplier limit ≡ true
   pub buyer_within : leb buyer limit ≡ true
 
-amounts_within : (s : List ℕ) (m : ℕ) (k : Kind) (i : ℕ) (h : Head) → amounts s m k i ≡ ok h → HeadWithin h.price h.supplier h.buyer
+amounts_within : (s : List ℕ) (m : ℕ) (f : Form) (i : ℕ) (h : Head) → amounts s m f i ≡ ok h → HeadWithin h.price h.supplier h.buyer
 unfolding amounts
-amounts_within s m k i h e =
+amounts_within s m f i h e =
     let (p, ep, e₁) = bind_inv (money (eqb (m % 2) 1) s i) _ e in
     let (a, ea, e₂) = bind_inv (money (eqb (m / 2 % 2) 1) s p.next) _ e₁ in
     let (b, eb, e₃) = bind_inv (money (eqb (m / 4 % 2) 1) s a.next) _ e₂ in
@@ -82,5 +82,5 @@ pub head_within : (s : List ℕ) (h : Head) → head_at s ≡ ok h → HeadWithi
 unfolding head_at
 head_within s h e =
     let (_, e₁) = passed (field_gives 2 s 0) _ e in
-    let (k, _, e₂) = bind_inv (kind_of (num 2 s 0 / 8)) _ e₁ in
-    amounts_within s (num 2 s 0) k 2 h e₂
+    let (f, _, e₂) = bind_inv (form_of (num 2 s 0 / 8)) _ e₁ in
+    amounts_within s (num 2 s 0) f 2 h e₂

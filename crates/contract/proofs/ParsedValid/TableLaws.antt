@@ -24,7 +24,7 @@ use Rattle.contract.proofs.ParsedValid.FieldLaws.{ranged_gives}
 -- the n units from index i on lie within the record, and each is in range
 record UnitsRead (s : List ℕ) (n i : ℕ) : Type 0 where
   room : i + n ≤ length s
-  range : units_in_range 255 (take n (drop i s)) ≡ true
+  range : units_in_range (take n (drop i s)) ≡ true
 
 num_one : (s : List ℕ) (i : ℕ) → num 1 s i ≡ get_or s i 0
 unfolding num
@@ -38,7 +38,7 @@ units_give s (suc n) i h a e =
     let (rest, q) = units_give s n (i + 1) one.room a e₁ in
     let inside : i < length s = omega (arith, one.room) in
     let next : i + 1 + n ≡ i + suc n = omega arith in
-    let range : units_in_range 255 (take (suc n) (drop i s)) ≡ true = rw (drop-cons s i 0 inside, ← num_one, one.low, one.high, ← add-one) rest.range in
+    let range : units_in_range (take (suc n) (drop i s)) ≡ true = rw (drop-cons s i 0 inside, ← num_one, one.low, one.high, ← add-one) rest.range in
     (record { room = rw (← next) rest.room; range = range }, rw (← next) q)
 
 table_range : (s : List ℕ) (n i : ℕ) → ltb 0 n ≡ true → leb n 4 ≡ true → UnitsRead s n i → leb (rows_of (part i (i + n) s)) 128 ≡ true

@@ -15,7 +15,6 @@ use Rattle.contract.specs.Field.{Head}
 use Rattle.contract.specs.Table.{part, all_within, Grid, Layout, table_at, units_of, cells_of, table_contract, table_end, table_body}
 use Rattle.contract.specs.Valid.{amounts_within, rises, Valid}
 use Rattle.contract.specs.declared.Form.TheVariants.{Table}
-use Rattle.contract.specs.declared.Kind.{Kind}
 use Rattle.contract.proofs.ParsedValid.ResLaws.{ok_inv, bind_inv, test_inv}
 use Rattle.contract.proofs.ParsedValid.FieldLaws.{HeadWithin}
 use Rattle.contract.proofs.ParsedValid.HeadValid.{headed, within_limit_lem}
@@ -43,7 +42,7 @@ cells_read s t g e w r =
     record { counted = rw (take-length (units_of s t)) (cells_length s t g ∙ e); within = cells_within s t g w; rise = rw cells_length r }
 
 contract_valid : (s : List ℕ) (h : Head) (t : Layout) → HeadWithin h.price h.supplier h.buyer → TableRead s t
-    → Cells s t t.costs → Cells s t t.values → Valid (table_contract s (headed Kind.Table h) t)
+    → Cells s t t.costs → Cells s t t.values → Valid (table_contract s (headed Table h) t)
 unfolding table_contract
 contract_valid s h t w r c v =
     record {
@@ -57,7 +56,7 @@ contract_valid s h t w r c v =
     }
 
 pub table_valid : (s : List ℕ) (h : Head) (k : Contract) → HeadWithin h.price h.supplier h.buyer
-    → table_body s (headed Kind.Table h) ≡ ok k → Valid k
+    → table_body s (headed Table h) ≡ ok k → Valid k
 unfolding table_body table_end
 table_valid s h k w e =
     let (t, et, e₁) = bind_inv (table_at s h.next) _ e in

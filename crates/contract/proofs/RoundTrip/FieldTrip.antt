@@ -21,9 +21,9 @@ module _ {s : List ℕ} {i : ℕ} {ps : List (List ℕ)} (w v : ℕ) (h : Rest s
   unfolding field
   field_is l = simp (le-leb (i + w) (length s) (room (digits_length w v) h), num_is w v l h)
 
-  pub ranged_is : (most : ℕ) → v < 256 ^ w → 0 < v → v ≤ most → ranged w most s i ≡ ok (record { value = v; next = i + w })
+  pub ranged_is : (most : ℕ) → most < 256 ^ w → 0 < v → v ≤ most → ranged w most s i ≡ ok (record { value = v; next = i + w })
   unfolding ranged
-  ranged_is most m low high = simp (field_is m, lt-ltb 0 v low, le-leb v most high)
+  ranged_is most m low high = simp (field_is (omega arith), lt-ltb 0 v low, le-leb v most high)
 
 module _ {s : List ℕ} {i : ℕ} {ps : List (List ℕ)} (v : ℕ) (l : v ≤ limit) where
   pub amount_is : (n t : ℕ) → t + n * v ≤ limit → Rest s i (digits 4 v ∷ ps) → amount s n t i ≡ ok (record { value = t + n * v; next = i + 4 })

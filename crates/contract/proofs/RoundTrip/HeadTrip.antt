@@ -9,10 +9,10 @@ use Rattle.area.specs.Entries.{digits}
 use Rattle.area.proofs.Laws.{digits_length}
 use Rattle.contract.specs.Res.{ok}
 use Rattle.contract.specs.Contract.{Contract, limit}
-use Rattle.contract.specs.Field.{Head, kind_of, amounts, head_at}
-use Rattle.contract.specs.Serialize.{map_of, money_bytes, serialize}
-use Rattle.contract.specs.Kind.{kind_bits, kind_for}
-use Rattle.contract.specs.declared.Kind.{Kind}
+use Rattle.contract.specs.Field.{Head, form_of, amounts, head_at}
+use Rattle.contract.specs.Serialize.{form_bits, map_of, money_bytes, serialize}
+use Rattle.contract.specs.declared.Form.{Form}
+use Rattle.contract.specs.declared.Form.TheVariants.{Ladder, UnitPrices, Table}
 use Rattle.contract.proofs.RoundTrip.Rest.{Rest, start, past}
 use Rattle.contract.proofs.Lengths.{body_from, body_of}
 use Rattle.contract.proofs.RoundTrip.FieldTrip.{field_is, money_is}
@@ -22,41 +22,35 @@ bit : (x : Bool) (n : ℕ) → (cond x 0 1 ≤ 1) × (cond x 0 n ≡ n * cond x 
 bit true n = omega arith
 bit false n = omega arith
 
--- what a map m of three bits and a kind says
+-- what a map m of three bits and a form says
 record Bits (m : ℕ) (x y z : Bool) (f : ℕ) : Type 0 where
   small : m < 256 ^ 2
   first : m % 2 ≡ cond x 0 1
   second : m / 2 % 2 ≡ cond y 0 1
   third : m / 4 % 2 ≡ cond z 0 1
-  kind : m / 8 ≡ f
+  form : m / 8 ≡ f
 
-bits : (x y z : Bool) (f : ℕ) → f ≤ 18 → Bits (cond x 0 1 + cond y 0 2 + cond z 0 4 + 8 * f) x y z f
+bits : (x y z : Bool) (f : ℕ) → f ≤ 4 → Bits (cond x 0 1 + cond y 0 2 + cond z 0 4 + 8 * f) x y z f
 bits x y z f l = omega (arith, bit x 1, bit y 2, bit z 4)
 
 is_set : (x : Bool) {n : ℕ} → n ≡ cond x 0 1 → eqb n 1 ≡ not x
 is_set true e = rw e
 is_set false e = rw e
 
-kind_small : (k : Kind) → kind_bits k ≤ 18
-kind_small Kind.Ladder = omega arith
-kind_small Kind.Narrow = omega arith
-kind_small Kind.Wide = omega arith
-kind_small Kind.Table = omega arith
+form_small : (f : Form) → form_bits f ≤ 4
+form_small Ladder = omega arith
+form_small UnitPrices = omega arith
+form_small Table = omega arith
 
-kind_is : (k : Kind) → kind_of (kind_bits k) ≡ ok k
-unfolding kind_of
-kind_is Kind.Ladder = refl
-kind_is Kind.Narrow = refl
-kind_is Kind.Wide = refl
-kind_is Kind.Table = refl
-
--- the kind of a contract's record
-abbrev pub kind_in : Contract → Kind
-kind_in k = kind_for k.form k.units
+form_is : (f : Form) → form_of (form_bits f) ≡ ok f
+unfolding form_of
+form_is Ladder = refl
+form_is UnitPrices = refl
+form_is Table = refl
 
 -- the head of a contract's record
 abbrev pub head_of : Contract → Head
-head_of k = record { kind = kind_in k; price = k.price; supplier = k.supplier; buyer = k.buyer; next = body_from k }
+head_of k = record { form = k.form; price = k.price; supplier = k.supplier; buyer = k.buyer; next = body_from k }
 
 module _ (k : Contract) where
   from_map : Rest (serialize k) 0 (digits 2 (map_of k) ∷ money_bytes k.price ∷ money_bytes k.supplier ∷ money_bytes k.buyer ∷ body_of k ∷ [])
@@ -75,12 +69,12 @@ module _ (k : Contract) where
       let x = eqb k.price 0 in
       let y = eqb k.supplier 0 in
       let z = eqb k.buyer 0 in
-      let m = bits x y z (kind_bits (kind_in k)) (kind_small (kind_in k)) in
+      let m = bits x y z (form_bits k.form) (form_small k.form) in
       let from_supplier = past refl from_price in
       simp (
         field_is 2 (map_of k) from_map m.small,
-        m.kind,
-        kind_is (kind_in k),
+        m.form,
+        form_is k.form,
         is_set x m.first,
         money_is k.price p from_price,
         is_set y m.second,

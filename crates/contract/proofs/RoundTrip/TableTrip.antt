@@ -10,7 +10,6 @@ use Rattle.area.specs.Entries.{digits}
 use Rattle.area.proofs.Laws.{digits_length}
 use Rattle.grid.specs.Rows.{rows_of, rising}
 use Rattle.contract.specs.Res.{ok}
-use Rattle.contract.specs.Kind.{form_in}
 use Rattle.contract.specs.Field.{Head}
 use Rattle.contract.specs.Table.{Grid, Layout, part, all_within, grids_at, table_at, cells_of, table_contract, table_end, table_body}
 use Rattle.contract.specs.Valid.{units_in_range}
@@ -24,7 +23,7 @@ use Rattle.contract.proofs.RoundTrip.GridTrip.{grid_from, from_end, grid_is, fil
 pub record TableFits (us cs vs : List ℕ) : Type 0 where
   pub low : 0 < length us
   pub high : length us ≤ 4
-  pub units : units_in_range 255 us ≡ true
+  pub units : units_in_range us ≡ true
   pub rows : rows_of us ≤ 128
   pub costs_counted : length cs ≡ rows_of us
   pub values_counted : length vs ≡ rows_of us
@@ -81,7 +80,7 @@ module _ {s : List ℕ} {i : ℕ} {us cs vs : List ℕ} (f : TableFits us cs vs)
 
 pub table_body_lem : {s : List ℕ} (h : Head) {us cs vs : List ℕ} → TableFits us cs vs
     → Rest s h.next (digits 1 (length us) ∷ flat_map (digits 1) us ∷ grid_bytes us cs ∷ grid_bytes us vs ∷ [])
-    → table_body s h ≡ ok (record { price = h.price; supplier = h.supplier; buyer = h.buyer; form = form_in h.kind; units = us; costs = cs; values = vs })
+    → table_body s h ≡ ok (record { price = h.price; supplier = h.supplier; buyer = h.buyer; form = h.form; units = us; costs = cs; values = vs })
 unfolding table_body table_end table_contract
 table_body_lem {s} h f r =
     rw (layout_is f r, eq-eqb _ (length s) (all_read f r), costs_are f r, values_are f r, units_is f r, f.costs_rise, f.values_rise)

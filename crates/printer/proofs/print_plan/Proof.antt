@@ -1,9 +1,10 @@
--- `printer::print_plan` plans in its own areas, and puts the text.
+-- `printer::print_plan` plans in areas that have room, and puts the text.
 use Rattle.planning.specs.Answer.{answer_of}
 use Rattle.planning.specs.Areas.{areas}
 use Rattle.planning.specs.Promise.{ahead}
+use Rattle.planning.proofs.Room.{roomy_ahead}
 use Rattle.printer.specs.Printout.{lent}
-use Rattle.printer.proofs.PrintLaws.{lent_ahead, counted}
+use Rattle.printer.proofs.PrintLaws.{roomy, counted}
 use borrow.Author.Rules.{rules}
 use Rattle.printer.proofs.print_plan.Statement.{statement}
 use Rattle.printer.proofs.print_plan.Tie as tie
@@ -43,7 +44,7 @@ returns c =
     record {
       answer = answer_of p.result;
       filled = areas p.new.1.0 p.new.1.1.0 p.new.1.1.1.0 p.new.1.1.1.1.0;
-      plans = rw (lent_ahead _) at p.ensures;
+      plans = rw (roomy_ahead _ lent roomy) at p.ensures;
       puts = c.before.before.put_answer.ensures.0;
       fits = c.before.before.put_answer.ensures.1;
     }

@@ -1,8 +1,7 @@
-use native.Mathlib.Omega.{arith}
-use Rattle.contract.specs.declared.Kind.{Kind}
-use Rattle.contract.specs.Parse.{parse, reading}
+use Rattle.contract.specs.declared.Form.TheVariants.{Ladder, UnitPrices, Table}
 use Rattle.record.specs.View.Head.{view_head, head_of}
-use Rattle.record.proofs.AnswerLaws.{refuses, sized_stop, parse_kind}
+use Rattle.record.proofs.AnswerLaws.{refuses, sized_stop, parse_form}
+use Rattle.contract.specs.Parse.{parse, reading}
 use Rattle.record.proofs.Laws.{asked}
 use borrow.Author.Rules.{rules}
 use Rattle.record.proofs.read.Statement.{statement}
@@ -24,25 +23,19 @@ enum_told : tie.Need-enum-told
 enum_told c = search rules
 
 read_segments_requires : tie.Need-read-segments-requires
-read_segments_requires c κs = (omega arith, record { kind_is = c.before.before.enum_told.given.1; small = rw c.before.before.before.before.before.h.given.1 at c.before.before.before.before.before.before.before.head_at.ensures.small })
+read_segments_requires c κs = record { form_is = c.before.before.enum_told.given.1; small = rw c.before.before.before.before.before.h.given.1 at c.before.before.before.before.before.before.before.head_at.ensures.small }
 
 enum_told_2 : tie.Need-enum-told-2
 enum_told_2 c = search rules
 
 read_segments_requires_2 : tie.Need-read-segments-requires-2
-read_segments_requires_2 c κs = (omega arith, record { kind_is = c.before.before.enum-told2.given.1; small = rw c.before.before.before.before.before.h.given.1 at c.before.before.before.before.before.before.before.head_at.ensures.small })
+read_segments_requires_2 c κs = record { form_is = c.before.before.enum-told2.given.1; small = rw c.before.before.before.before.before.h.given.1 at c.before.before.before.before.before.before.before.head_at.ensures.small }
 
 enum_told_3 : tie.Need-enum-told-3
 enum_told_3 c = search rules
 
-read_segments_requires_3 : tie.Need-read-segments-requires-3
-read_segments_requires_3 c κs = (omega arith, record { kind_is = c.before.before.enum-told3.given.1; small = rw c.before.before.before.before.before.h.given.1 at c.before.before.before.before.before.before.before.head_at.ensures.small })
-
-enum_told_4 : tie.Need-enum-told-4
-enum_told_4 c = search rules
-
 read_table_requires : tie.Need-read-table-requires
-read_table_requires c κs = record { kind_is = c.before.before.enum-told4.given.1; small = rw c.before.before.before.before.before.h.given.1 at c.before.before.before.before.before.before.before.head_at.ensures.small }
+read_table_requires c κs = record { form_is = c.before.before.enum-told3.given.1; small = rw c.before.before.before.before.before.h.given.1 at c.before.before.before.before.before.before.before.head_at.ensures.small }
 
 returns : tie.Need-returns
 unfolding parse reading
@@ -56,7 +49,7 @@ same_length_2 c = search rules
 
 returns_2 : tie.Need-returns-2
 unfolding reading
-returns_2 c = rw (parse_kind c.before.before.before.before.before.before.before.before.before.before.before.before.before.before.before.before.args.bytes.now (head_of c.before.before.before.before.before.before.before.before.before.before.h.given.0.0) Kind.Ladder (asked view_head c.before.before.before.before.before.before.before.before.before.before.before.before.head_at.ensures.meets c.before.before.before.before.before.before.before.before.before.before.h.given.1) c.before.before.before.before.before.before.before.enum_told.given.1) c.before.before.before.before.read_segments.ensures
+returns_2 c = rw (parse_form c.before.before.before.before.before.before.before.before.before.before.before.before.before.before.before.before.args.bytes.now (head_of c.before.before.before.before.before.before.before.before.before.before.h.given.0.0) Ladder (asked view_head c.before.before.before.before.before.before.before.before.before.before.before.before.head_at.ensures.meets c.before.before.before.before.before.before.before.before.before.before.h.given.1) c.before.before.before.before.before.before.before.enum_told.given.1) c.before.before.before.before.read_segments.ensures
 
 same_length_3 : tie.Need-same-length-3
 same_length_3 c = search rules
@@ -66,7 +59,7 @@ same_length_4 c = search rules
 
 returns_3 : tie.Need-returns-3
 unfolding reading
-returns_3 c = rw (parse_kind c.before.before.before.before.before.before.before.before.before.before.before.before.before.before.before.before.args.bytes.now (head_of c.before.before.before.before.before.before.before.before.before.before.h.given.0.0) Kind.Narrow (asked view_head c.before.before.before.before.before.before.before.before.before.before.before.before.head_at.ensures.meets c.before.before.before.before.before.before.before.before.before.before.h.given.1) c.before.before.before.before.before.before.before.enum-told2.given.1) c.before.before.before.before.read-segments2.ensures
+returns_3 c = rw (parse_form c.before.before.before.before.before.before.before.before.before.before.before.before.before.before.before.before.args.bytes.now (head_of c.before.before.before.before.before.before.before.before.before.before.h.given.0.0) UnitPrices (asked view_head c.before.before.before.before.before.before.before.before.before.before.before.before.head_at.ensures.meets c.before.before.before.before.before.before.before.before.before.before.h.given.1) c.before.before.before.before.before.before.before.enum-told2.given.1) c.before.before.before.before.read-segments2.ensures
 
 same_length_5 : tie.Need-same-length-5
 same_length_5 c = search rules
@@ -76,17 +69,7 @@ same_length_6 c = search rules
 
 returns_4 : tie.Need-returns-4
 unfolding reading
-returns_4 c = rw (parse_kind c.before.before.before.before.before.before.before.before.before.before.before.before.before.before.before.before.args.bytes.now (head_of c.before.before.before.before.before.before.before.before.before.before.h.given.0.0) Kind.Wide (asked view_head c.before.before.before.before.before.before.before.before.before.before.before.before.head_at.ensures.meets c.before.before.before.before.before.before.before.before.before.before.h.given.1) c.before.before.before.before.before.before.before.enum-told3.given.1) c.before.before.before.before.read-segments3.ensures
-
-same_length_7 : tie.Need-same-length-7
-same_length_7 c = search rules
-
-same_length_8 : tie.Need-same-length-8
-same_length_8 c = search rules
-
-returns_5 : tie.Need-returns-5
-unfolding reading
-returns_5 c = rw (parse_kind c.before.before.before.before.before.before.before.before.before.before.before.before.before.before.before.before.args.bytes.now (head_of c.before.before.before.before.before.before.before.before.before.before.h.given.0.0) Kind.Table (asked view_head c.before.before.before.before.before.before.before.before.before.before.before.before.head_at.ensures.meets c.before.before.before.before.before.before.before.before.before.before.h.given.1) c.before.before.before.before.before.before.before.enum-told4.given.1) c.before.before.before.before.read_table.ensures
+returns_4 c = rw (parse_form c.before.before.before.before.before.before.before.before.before.before.before.before.before.before.before.before.args.bytes.now (head_of c.before.before.before.before.before.before.before.before.before.before.h.given.0.0) Table (asked view_head c.before.before.before.before.before.before.before.before.before.before.before.before.head_at.ensures.meets c.before.before.before.before.before.before.before.before.before.before.h.given.1) c.before.before.before.before.before.before.before.enum-told3.given.1) c.before.before.before.before.read_table.ensures
 
 pub read_spec : {M : Type 1} → statement M
 read_spec =
@@ -101,8 +84,6 @@ read_spec =
     enum_told_2
     read_segments_requires_2
     enum_told_3
-    read_segments_requires_3
-    enum_told_4
     read_table_requires
     returns
     same_length
@@ -113,7 +94,4 @@ read_spec =
     returns_3
     same_length_5
     same_length_6
-    returns_4
-    same_length_7
-    same_length_8
-    returns_5)
+    returns_4)

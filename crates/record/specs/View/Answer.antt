@@ -1,6 +1,5 @@
 -- The reader's answers as the code makes them.
 use Rattle.std.specs.Prelude.{List, ℕ}
-use Rattle.contract.specs.Kind.{form_in}
 use Rattle.contract.specs.Field.{Head}
 use Rattle.contract.specs.declared.Refusal.{Refusal}
 use Rattle.record.specs.Promise.{empty_header}
@@ -16,5 +15,5 @@ abbrev pub acceptance : Head → ℕ → List ℕ → Outcome
 acceptance h n us =
     record {
       reply = Reply.Accepted;
-      header = record { price = h.price; supplier = h.supplier; buyer = h.buyer; form = form_in h.kind; count = n; units = us };
+      header = record { price = h.price; supplier = h.supplier; buyer = h.buyer; form = h.form; count = n; units = us };
     }

@@ -3,19 +3,19 @@ use Rattle.std.specs.Prelude.{◌≡◌, List, ℕ, ◌≤◌}
 use Rattle.contract.specs.Res.{Res, refused, ok}
 use Rattle.contract.specs.Contract.{limit, number_of}
 use Rattle.contract.specs.Field as field
-use Rattle.contract.specs.declared.Kind.{Kind}
+use Rattle.contract.specs.declared.Form.{Form}
 use Rattle.record.specs.declared.head.Head.{Head}
 use Rattle.record.specs.declared.head.HeadReply.{HeadReply}
-use Rattle.record.specs.declared.head.KindReply.{KindReply}
+use Rattle.record.specs.declared.head.FormReply.{FormReply}
 
--- the number of a refusal, or the kind
-abbrev pub view_kind : KindReply → Res Kind
-view_kind (KindReply.Refused e) = refused (number_of e)
-view_kind (KindReply.Is k) = ok k
+-- the number of a refusal, or the form
+abbrev pub view_form : FormReply → Res Form
+view_form (FormReply.Refused e) = refused (number_of e)
+view_form (FormReply.Is f) = ok f
 
 -- the head that the code's struct holds
 abbrev pub head_of : Head → field.Head
-head_of h = record { kind = h.kind; price = h.price; supplier = h.supplier; buyer = h.buyer; next = h.next }
+head_of h = record { form = h.form; price = h.price; supplier = h.supplier; buyer = h.buyer; next = h.next }
 
 -- the number of a refusal, or the head
 abbrev pub view_head : HeadReply → Res field.Head
@@ -38,12 +38,12 @@ pub record Heads (answer : Res field.Head) (r : HeadReply) : Type 0 where
   pub meets : view_head r ≡ answer
   pub small : SmallIn (view_head r)
 
--- a head of this kind, with small amounts
-pub record ReadHead (k : Kind) (h : field.Head) : Type 0 where
-  pub kind_is : h.kind ≡ k
+-- a head of this form, with small amounts
+pub record ReadHead (f : Form) (h : field.Head) : Type 0 where
+  pub form_is : h.form ≡ f
   pub small : Small h
 
 -- the head of the record s of a ladder
 pub record LadderHead (s : List ℕ) (h : field.Head) : Type 0 where
   pub said : field.head_at s ≡ ok h
-  pub read : ReadHead Kind.Ladder h
+  pub read : ReadHead Form.Ladder h

@@ -1,20 +1,18 @@
 -- What the code's segments stand for.
-use Rattle.std.specs.Prelude.{◌≡◌, List, ◌++◌, ℕ, zero, suc, ◌+◌, ◌-◌, ◌*◌, ◌≤◌, leb, eqb, length, replicate}
-use Rattle.area.specs.Entries.{num}
+use Rattle.std.specs.Prelude.{◌≡◌, Bool, cond, List, ◌++◌, ℕ, zero, suc, ◌+◌, ◌-◌, ◌*◌, ◌≤◌, eqb, length, replicate}
+use Rattle.area.specs.Entries.{num, column}
 use Rattle.contract.specs.Res.{Res, refused, ok, bind, test}
-use Rattle.contract.specs.Contract.{limit, most_units, number_of}
-use Rattle.contract.specs.Kind.{width_for}
-use Rattle.contract.specs.Segments.{Sums, from, segments, segment_count, size, units_fields}
-use Rattle.contract.specs.declared.Kind.{Kind}
+use Rattle.contract.specs.Contract.{limit, number_of}
+use Rattle.contract.specs.Segments.{Sums, from, segments, segment_count, size}
+use Rattle.contract.specs.declared.Form.{Form}
+use Rattle.contract.specs.declared.Form.TheVariants.{Ladder, UnitPrices}
 use Rattle.record.specs.declared.segments.Cursor.{Cursor}
 use Rattle.record.specs.declared.segments.Step.{Step}
 use Rattle.record.specs.declared.segments.RunReply.{RunReply}
 
--- the kind of a record whose segments state their units in w bytes
-abbrev pub kind_by : ℕ → Kind
-kind_by zero = Kind.Ladder
-kind_by (suc zero) = Kind.Narrow
-kind_by (suc (suc v)) = Kind.Wide
+-- the form of segments that do not state their units, or do
+abbrev pub segment_form : Bool → Form
+segment_form p = cond p UnitPrices Ladder
 
 -- the totals that the code's cursor holds
 abbrev pub sums : Cursor → Sums
@@ -27,7 +25,7 @@ view_step (Step.Next c) = ok (sums c)
 
 -- running totals are within their limits
 pub record Kept (c : Sums) : Type 0 where
-  pub units : c.units ≤ most_units
+  pub units : c.units ≤ 1000
   pub cost : c.cost ≤ limit
   pub value : c.value ≤ limit
 
@@ -53,14 +51,12 @@ lifted s zero c = c
 lifted s (suc n) c = lifted s n (record { at = c.at + 8; units = c.units; cost = c.cost + num 4 s c.at; value = c.value + num 4 s (c.at + 4) })
 
 -- the most segments
-abbrev pub most : ℕ → ℕ
-most zero = 1000
-most (suc v) = 8
+abbrev pub most : Bool → ℕ
+most p = cond p 8 1000
 
 -- the bytes of the count of segments
-abbrev pub count_size : ℕ → ℕ
-count_size zero = 2
-count_size (suc v) = 1
+abbrev pub wide : Bool → ℕ
+wide p = cond p 1 2
 
 -- how many segments, where the first begins, and the totals of cost and value
 pub record Found : Type 0 where
@@ -70,13 +66,12 @@ pub record Found : Type 0 where
   pub value : ℕ
 
 -- the segments from index i to the record's end
-unfoldable pub found : ℕ → List ℕ → ℕ → Res Found
-found w s i =
-    bind (segment_count w s i) (λ n.
-    bind (segments w s n.value (from n.next)) (λ c.
-    test 3 (leb w (width_for (units_fields w s n.next n.value))) (
+unfoldable pub found : Bool → List ℕ → ℕ → Res Found
+found p s i =
+    bind (segment_count p s i) (λ n.
+    bind (segments p s n.value (from n.next)) (λ c.
     test 7 (eqb c.at (length s)) (
-    ok (record { count = n.value; first = n.next; cost = c.cost; value = c.value })))))
+    ok (record { count = n.value; first = n.next; cost = c.cost; value = c.value }))))
 
 -- the number of a refusal, or the segments found
 abbrev pub view_run : RunReply → Res Found
@@ -84,29 +79,22 @@ view_run (RunReply.Refused e) = refused (number_of e)
 view_run (RunReply.Found r) = ok (record { count = r.count; first = r.first; cost = r.cost; value = r.value })
 
 -- segments that reach to the record's end, with totals within the limit
-pub record ToEnd (w : ℕ) (s : List ℕ) (r : Found) : Type 0 where
-  pub ends : r.first + r.count * size w ≡ length s
-  pub few : r.count ≤ most w
+pub record ToEnd (p : Bool) (s : List ℕ) (r : Found) : Type 0 where
+  pub ends : r.first + r.count * size p ≡ length s
+  pub few : r.count ≤ most p
   pub cost : r.cost ≤ limit
   pub value : r.value ≤ limit
 
 -- the segments found are so
-abbrev pub Inside : ℕ → List ℕ → Res Found → Type 0
-Inside w s (refused n) = Unit {0}
-Inside w s (ok r) = ToEnd w s r
+abbrev pub Inside : Bool → List ℕ → Res Found → Type 0
+Inside p s (refused n) = Unit {0}
+Inside p s (ok r) = ToEnd p s r
 
 -- what finding the segments gives
-pub record Runs (w : ℕ) (s : List ℕ) (i : ℕ) (r : RunReply) : Type 0 where
-  pub meets : view_run r ≡ found w s i
-  pub inside : Inside w s (view_run r)
+pub record Runs (p : Bool) (s : List ℕ) (i : ℕ) (r : RunReply) : Type 0 where
+  pub meets : view_run r ≡ found p s i
+  pub inside : Inside p s (view_run r)
 
 -- the units of each item, then zeros; a ladder has none
-abbrev pub padded_units : ℕ → List ℕ → ℕ → ℕ → List ℕ
-padded_units zero s i n = replicate 8 0
-padded_units (suc v) s i n = units_fields (suc v) s i n ++ replicate (8 - n) 0
-
--- the units fields of n segments from index i on lie within the record: none of a ladder's, else of one byte or of two
-pub record Fields (w : ℕ) (s : List ℕ) (i n : ℕ) : Type 0 where
-  pub width : w ≤ 2
-  pub few : n ≤ most w
-  pub within : i + n * size w ≤ length s
+abbrev pub padded_units : Bool → List ℕ → ℕ → ℕ → List ℕ
+padded_units p s i n = cond p (column 1 s i 9 n ++ replicate (8 - n) 0) (replicate 8 0)

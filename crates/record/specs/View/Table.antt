@@ -10,7 +10,7 @@ use Rattle.contract.specs.Contract.{number_of}
 use Rattle.contract.specs.Field.{Head}
 use Rattle.contract.specs.Table as table
 use Rattle.contract.specs.Table.{part, units_at, grid_at, units_of}
-use Rattle.contract.specs.declared.Kind.{Kind}
+use Rattle.contract.specs.declared.Form.TheVariants.{Table}
 use Rattle.record.specs.View.Head.{ReadHead}
 use Rattle.record.specs.declared.table.Index.{Index}
 use Rattle.record.specs.declared.table.Grid.{Grid}
@@ -137,7 +137,7 @@ Filled s us g before rises after = Fills us (part g.map g.cells s) (given_in s g
 
 -- a table's head and layout, and two work areas with a cell for each row
 pub record Working (s : List ℕ) (h : Head) (t : Layout) (c v : List ℕ) : Type 0 where
-  pub head : ReadHead Kind.Table h
+  pub head : ReadHead Table h
   pub laid : Laid s (layout_of t)
   pub rises_is : TableRises s t
   pub costs_long : length c ≡ t.rows

@@ -1,13 +1,12 @@
 -- The parts of a record as the writer stores them, one after the other.
-use Rattle.std.specs.Prelude.{◌≡◌, ◌⊎◌, true, cond, ℕ, ◌+◌, ◌≤◌, length, get_or}
+use Rattle.std.specs.Prelude.{◌≡◌, ◌⊎◌, true, cond, ℕ, ltb, length, get_or}
 use mathlib.Core.List.{List, [], ◌++◌, flat_map}
 use Rattle.area.specs.Entries.{digits, up_to}
 use Rattle.grid.specs.Rows.{rising}
 use Rattle.grid.specs.Map.{map_size, standing_cells}
 use Rattle.grid.specs.Cells.{row_map}
 use Rattle.contract.specs.Res.{Res}
-use Rattle.contract.specs.Contract.{Contract, most_units, units_in, entries_in}
-use Rattle.contract.specs.Kind.{width_for}
+use Rattle.contract.specs.Contract.{Contract, units_in, entries_in}
 use Rattle.contract.specs.Valid.{units_in_range, in_range, within_limit}
 use Rattle.contract.specs.Serialize.{map_of, money_bytes, segment_bytes, record_of}
 use Rattle.contract.specs.declared.Form.{Form}
@@ -42,13 +41,13 @@ pub record Counted (h : Header) (us cs vs : List ℕ) : Type 0 where
 -- the units of segments: none of a ladder, and at least one of each item with unit prices
 abbrev pub Shaped : Form → List ℕ → List ℕ → Type 0
 Shaped Ladder us amounts = us ≡ []
-Shaped UnitPrices us amounts = (units_in_range most_units us ≡ true) × (length us ≡ length amounts)
+Shaped UnitPrices us amounts = (units_in_range us ≡ true) × (length us ≡ length amounts)
 Shaped Table us amounts = Unit {0}
 
--- a ladder or unit prices, in range and within the limit, and the bytes of a units field
-pub record Segmented (h : Header) (w : ℕ) (us cs vs : List ℕ) : Type 0 where
+-- a ladder or unit prices, in range and within the limit
+pub record Segmented (h : Header) (us cs vs : List ℕ) : Type 0 where
   pub counts : Counted h us cs vs
-  pub is_run : ((h.form ≡ Ladder) × (w ≡ 0)) ⊎ ((h.form ≡ UnitPrices) × (w ≡ width_for us))
+  pub is_run : (h.form ≡ Ladder) ⊎ (h.form ≡ UnitPrices)
   pub within : within_limit (contract_with h us cs vs) ≡ true
 
 -- a table, in range and within the limit
@@ -64,31 +63,27 @@ count_size UnitPrices = 1
 count_size Table = 1
 
 -- the record up to its count
-unfoldable pub head_bytes : Header → List ℕ → List ℕ
-head_bytes h us =
-    digits 2 (map_of (contract_with h us [] [])) ++ money_bytes h.price ++ money_bytes h.supplier ++ money_bytes h.buyer
+unfoldable pub head_bytes : Header → List ℕ
+head_bytes h =
+    digits 2 (map_of (contract_with h [] [] [])) ++ money_bytes h.price ++ money_bytes h.supplier ++ money_bytes h.buyer
     ++ digits (count_size h.form) h.count
-
--- its length, whatever the units
-abbrev pub head_size : Header → ℕ
-head_size h = 2 + length (money_bytes h.price) + length (money_bytes h.supplier) + length (money_bytes h.buyer) + count_size h.form
 
 -- the units of each of n segments: one where none are stated
 unfoldable pub each : List ℕ → ℕ → List ℕ
 each us n = up_to n (λ i. get_or us i 1)
 
--- a segment of u units, which it states in w bytes
-abbrev pub one_segment : ℕ → ℕ → ℕ → ℕ → List ℕ
-one_segment w u c v = digits w u ++ digits 4 c ++ digits 4 v
+-- the units of segment i, where they are stated
+abbrev pub units_byte : List ℕ → ℕ → List ℕ
+units_byte us i = cond (ltb i (length us)) (digits 1 (get_or us i 0)) []
 
--- segments: as many values as costs, and a units field of at most two bytes
-pub record Run (w : ℕ) (cs vs : List ℕ) : Type 0 where
-  pub width : w ≤ 2
+-- segments: as many values as costs, and the units stated of each or of none
+pub record Run (us cs vs : List ℕ) : Type 0 where
   pub values_counted : length vs ≡ length cs
+  pub stated : (us ≡ []) ⊎ (length us ≡ length cs)
 
--- the segments, each with its units in w bytes
-abbrev pub run_bytes : ℕ → List ℕ → List ℕ → List ℕ → List ℕ
-run_bytes w us cs vs = segment_bytes w (each us (length cs)) cs vs
+-- the segments: those of a ladder where no units are stated, else those of unit prices
+abbrev pub run_bytes : List ℕ → List ℕ → List ℕ → List ℕ
+run_bytes us cs vs = segment_bytes (ltb 0 (length us)) (each us (length cs)) cs vs
 
 -- a row map and the cells that stand in it
 unfoldable pub grid_with : List ℕ → List ℕ → List ℕ

@@ -10,10 +10,10 @@ use Rattle.record.proofs.counts.units_in_range.Statement.{statement}
 use Rattle.record.proofs.counts.units_in_range.Tie as tie
 
 abbrev invariant_loop : tie.invariant_loop
-invariant_loop units most i₀ i = (i ≤ length units) × (units_in_range most units ≡ units_in_range most (drop i units))
+invariant_loop units i₀ i = (i ≤ length units) × (units_in_range units ≡ units_in_range (drop i units))
 
 abbrev decreases_loop : tie.decreases_loop
-decreases_loop units most i₀ i = length units - i
+decreases_loop units i₀ i = length units - i
 
 loop_holds : tie.Need-loop-init invariant_loop decreases_loop
 loop_holds c = (omega arith, refl)
@@ -25,10 +25,10 @@ shared_slice_read_u : tie.Need-shared-slice-read-u invariant_loop decreases_loop
 shared_slice_read_u c = search rules
 
 returns : tie.Need-returns invariant_loop decreases_loop
-returns c = sym (c.before.before.before.loop.invariant.1 ∙ range_none _ _ c.before.before.loop-test.true _ c.if1.true)
+returns c = sym (c.before.before.before.loop.invariant.1 ∙ range_none _ _ c.before.before.loop-test.true c.if1.true)
 
 returns_2 : tie.Need-returns-2 invariant_loop decreases_loop
-returns_2 c = sym (c.before.before.before.before.loop.invariant.1 ∙ range_over _ _ c.before.before.before.loop-test.true _ c.if2.true)
+returns_2 c = sym (c.before.before.before.before.loop.invariant.1 ∙ range_over _ _ c.before.before.before.loop-test.true c.if2.true)
 
 add_i : tie.Need-overflow-add-i invariant_loop decreases_loop
 add_i c = search rules
@@ -37,10 +37,10 @@ loop_less : tie.Need-loop-smaller invariant_loop decreases_loop
 loop_less c = search rules
 
 loop_again : tie.Need-loop-preserved invariant_loop decreases_loop
-loop_again c = (search rules, c.before.before.before.before.loop.invariant.1 ∙ range_turn _ _ c.before.before.before.loop-test.true _ c.before.if1.false c.if2.false)
+loop_again c = (search rules, c.before.before.before.before.loop.invariant.1 ∙ range_turn _ _ c.before.before.before.loop-test.true c.before.if1.false c.if2.false)
 
 returns_3 : tie.Need-returns-3 invariant_loop decreases_loop
-returns_3 c = sym (c.before.loop.invariant.1 ∙ range_end _ _ c.loop-test.false _)
+returns_3 c = sym (c.before.loop.invariant.1 ∙ range_end _ _ c.loop-test.false)
 
 pub units_in_range_spec : {M : Type 1} → statement M
 units_in_range_spec =

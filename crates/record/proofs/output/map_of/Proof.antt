@@ -18,15 +18,15 @@ bit_requires_3 c κs = search rules
 add_result_2 : tie.Need-overflow-add-result-2
 add_result_2 c = search rules
 
-kind_bits_requires : tie.Need-kind-bits-requires
-kind_bits_requires c κs = search rules
+form_bit_requires : tie.Need-form-bit-requires
+form_bit_requires c κs = search rules
 
 add_result_3 : tie.Need-overflow-add-result-3
 add_result_3 c = search rules
 
 returns : tie.Need-returns
 unfolding map_of
-returns c = rw (c.before.before.before.bit.ensures.0, c.before.before.bit2.ensures.0, c.before.bit3.ensures.0, c.kind_bits.ensures.0)
+returns c = rw (c.before.before.before.bit.ensures.0, c.before.before.bit2.ensures.0, c.before.bit3.ensures.0, c.form_bit.ensures.0)
 
 pub map_of_spec : {M : Type 1} → statement M
 map_of_spec =
@@ -37,6 +37,6 @@ map_of_spec =
     add_result
     bit_requires_3
     add_result_2
-    kind_bits_requires
+    form_bit_requires
     add_result_3
     returns)

@@ -3,6 +3,7 @@ use borrow.Author.Rules.{rules}
 use Rattle.area.proofs.Laws.{digits_length}
 use Rattle.record.specs.View.Write.{head_bytes}
 use Rattle.area.proofs.PutLaws.{puts_then}
+use Rattle.record.proofs.PutLaws.{head_length}
 use Rattle.record.proofs.output.put_head.Statement.{statement}
 use Rattle.record.proofs.output.put_head.Tie as tie
 
@@ -10,19 +11,19 @@ map_of_requires : tie.Need-map-of-requires
 map_of_requires c κs = search rules
 
 put_u16_requires : tie.Need-put-u16-requires
-put_u16_requires c κs = search rules
+put_u16_requires c κs = omega (arith, head_length c.before.before.before.args.header)
 
 put_money_requires : tie.Need-put-money-requires
-put_money_requires c κs = omega (arith, digits_length 2 c.before.before.before.before.map_of.result)
+put_money_requires c κs = omega (arith, head_length c.before.before.before.before.before.before.before.args.header, digits_length 2 c.before.before.before.before.map_of.result)
 
 put_money_requires_2 : tie.Need-put-money-requires-2
-put_money_requires_2 c κs = omega (arith, digits_length 2 c.before.before.before.before.before.before.before.before.map_of.result)
+put_money_requires_2 c κs = omega (arith, head_length c.before.before.before.before.before.before.before.before.before.before.before.args.header, digits_length 2 c.before.before.before.before.before.before.before.before.map_of.result)
 
 put_money_requires_3 : tie.Need-put-money-requires-3
-put_money_requires_3 c κs = omega (arith, digits_length 2 c.before.before.before.before.before.before.before.before.before.before.before.before.map_of.result)
+put_money_requires_3 c κs = omega (arith, head_length c.before.before.before.before.before.before.before.before.before.before.before.before.before.before.before.args.header, digits_length 2 c.before.before.before.before.before.before.before.before.before.before.before.before.map_of.result)
 
 put_count_requires : tie.Need-put-count-requires
-put_count_requires c κs = omega (arith, digits_length 2 c.before.before.before.before.before.before.before.before.before.before.before.before.before.before.before.before.map_of.result)
+put_count_requires c κs = omega (arith, head_length c.before.before.before.before.before.before.before.before.before.before.before.before.before.before.before.before.before.before.before.args.header, digits_length 2 c.before.before.before.before.before.before.before.before.before.before.before.before.before.before.before.before.map_of.result)
 
 same_length : tie.Need-same-length
 same_length c = search rules

@@ -10,17 +10,14 @@ use Rattle.record.proofs.output.put_segments.Statement.{statement}
 use Rattle.record.proofs.output.put_segments.Tie as tie
 
 abbrev invariant_loop : tie.invariant_loop
-invariant_loop out₀ at w units costs values j₀ i₀ out j i =
-    (i ≤ length costs) × Left (run_bytes w units costs values) out₀ at (run_from w units costs values i) out j
+invariant_loop out₀ at units costs values j₀ i₀ out j i =
+    (i ≤ length costs) × Left (run_bytes units costs values) out₀ at (run_from units costs values i) out j
 
 abbrev decreases_loop : tie.decreases_loop
-decreases_loop out₀ at w units costs values j₀ i₀ out j i = length costs - i
+decreases_loop out₀ at units costs values j₀ i₀ out j i = length costs - i
 
 loop_holds : tie.Need-loop-init invariant_loop decreases_loop
 loop_holds c = (omega arith, left_all _ _ _)
-
-stated_requires : tie.Need-stated-requires invariant_loop decreases_loop
-stated_requires c κs = search rules
 
 mul_put_segment : tie.Need-overflow-mul-put-segment invariant_loop decreases_loop
 mul_put_segment c = search rules
@@ -35,7 +32,7 @@ shared_slice_read_put_segment_2 : tie.Need-shared-slice-read-put-segment-2 invar
 shared_slice_read_put_segment_2 c = search rules
 
 put_segment_requires : tie.Need-put-segment-requires invariant_loop decreases_loop
-put_segment_requires c κs = (c.before.before.before.before.before.before.before.before.before.before.requires.0.width, run_room _ _ _ _ c.before.before.before.before.before.before.before.before.before.before.requires.0 _ c.before.before.before.before.loop-test.true c.before.before.stated.ensures c.before.before.before.before.before.loop.invariant.1 c.before.before.before.before.before.before.before.before.before.before.requires.1)
+put_segment_requires c κs = run_room _ _ _ c.before.before.before.before.before.before.before.before.before.requires.0 _ c.before.before.before.loop-test.true c.before.before.before.before.loop.invariant.1 c.before.before.before.before.before.before.before.before.before.requires.1
 
 add_i : tie.Need-overflow-add-i invariant_loop decreases_loop
 add_i c = search rules
@@ -44,13 +41,13 @@ loop_less : tie.Need-loop-smaller invariant_loop decreases_loop
 loop_less c = search rules
 
 loop_again : tie.Need-loop-preserved invariant_loop decreases_loop
-loop_again c = (search rules, left_turn _ _ c.before.before.before.before.before.before.before.before.loop.invariant.1 (run_turn _ _ _ _ c.before.before.before.before.before.before.before.before.before.before.before.before.before.requires.0 _ c.before.before.before.before.before.before.before.loop-test.true c.before.before.before.before.before.stated.ensures) c.before.before.put_segment.ensures)
+loop_again c = (search rules, left_turn _ _ c.before.before.before.before.before.before.before.loop.invariant.1 (run_turn _ _ _ c.before.before.before.before.before.before.before.before.before.before.before.before.requires.0 _ c.before.before.before.before.before.before.loop-test.true) c.before.before.put_segment.ensures)
 
 same_length : tie.Need-same-length invariant_loop decreases_loop
 same_length c = c.before.loop.invariant.1.kept
 
 returns : tie.Need-returns invariant_loop decreases_loop
-returns c = left_done c.before.loop.invariant.1 (run_none _ _ _ _ c.before.before.before.before.before.before.requires.0 _ c.loop-test.false)
+returns c = left_done c.before.loop.invariant.1 (run_none _ _ _ c.before.before.before.before.before.before.requires.0 _ c.loop-test.false)
 
 pub put_segments_spec : {M : Type 1} → statement M
 put_segments_spec =
@@ -59,7 +56,6 @@ put_segments_spec =
     invariant_loop
     decreases_loop
     loop_holds
-    stated_requires
     mul_put_segment
     shared_slice_read_put_segment
     mul_put_segment_2

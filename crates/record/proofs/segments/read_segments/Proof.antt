@@ -8,7 +8,7 @@ use Rattle.record.specs.View.Head.{head_of}
 use Rattle.record.specs.View.Segments.{view_run}
 use Rattle.record.proofs.Laws.{asked}
 use Rattle.record.proofs.AnswerLaws.{refuses, accepts}
-use Rattle.record.proofs.SegmentLaws.{said_stopped, said_found, fields_are, few_segments, segment_header}
+use Rattle.record.proofs.SegmentLaws.{said_stopped, said_found, spaced_units, few_segments, segment_header}
 use Rattle.record.proofs.segments.read_segments.Statement.{statement}
 use Rattle.record.proofs.segments.read_segments.Tie as tie
 
@@ -39,17 +39,17 @@ returns_2 c = refuses _ _ Short (said_found _ _ _ _ _ _ (asked view_run c.before
 fill_segments_requires : tie.Need-fill-segments-requires
 fill_segments_requires c κs =
     let m = rw c.before.before.before.before.before.p.given.1 at c.before.before.before.before.before.before.before.find_segments.ensures.inside in
-    (c.before.before.before.before.before.before.before.before.before.before.before.requires.0, (m.ends, (c.before.before.before.if1.false, c.before.before.if2.false)))
+    (m.ends, (c.before.before.before.if1.false, c.before.before.if2.false))
 
 segment_units_requires : tie.Need-segment-units-requires
 segment_units_requires c κs =
     let m = rw c.before.before.before.before.before.before.before.before.before.before.p.given.1 at c.before.before.before.before.before.before.before.before.before.before.before.before.find_segments.ensures.inside in
-    fields_are _ _ _ _ c.before.before.before.before.before.before.before.before.before.before.before.before.before.before.before.before.requires.0 m.few m.ends
+    (spaced_units c.before.before.before.before.before.before.before.before.before.before.before.before.before.before.before.before.args.priced _ _ _ m.ends, m.few)
 
 accept_requires : tie.Need-accept-requires
 accept_requires c κs =
     let m = rw c.before.before.before.before.before.before.before.before.before.before.before.p.given.1 at c.before.before.before.before.before.before.before.before.before.before.before.before.before.find_segments.ensures.inside in
-    (c.before.before.before.before.before.before.before.before.before.before.before.before.before.before.before.before.before.requires.1.small, few_segments c.before.before.before.before.before.before.before.before.before.before.before.before.before.before.before.before.before.args.w _ m.few)
+    (c.before.before.before.before.before.before.before.before.before.before.before.before.before.before.before.before.before.requires.small, few_segments c.before.before.before.before.before.before.before.before.before.before.before.before.before.before.before.before.before.args.priced _ m.few)
 
 returns_3 : tie.Need-returns-3
 returns_3 c = refuses _ _ _ (said_stopped _ _ _ _ _ (asked view_run c.before.before.before.before.find_segments.ensures.meets c.before.before.e.given.1)) c.refuse.ensures
@@ -65,11 +65,11 @@ unfolding segment_contract
 returns_4 c =
     let a = c.before.before.before.before.before.before.before.before.before.before.before.before.before.before.before.before.before.before.args in
     let r = c.before.before.before.before.before.before.before.before.before.before.before.before.p.given.0.0 in
-    let k = segment_contract a.w a.s.now (head_of a.h) r.count r.first in
+    let k = segment_contract a.priced a.s.now (head_of a.h) r.count r.first in
     let f = c.before.before.before.before.before.before.fill_segments.ensures in
     accepts k _ _
     (said_found _ _ _ _ _ _ (asked view_run c.before.before.before.before.before.before.before.before.before.before.before.before.before.before.find_segments.ensures.meets c.before.before.before.before.before.before.before.before.before.before.before.before.p.given.1) ∙ simp (le-leb _ _ c.before.before.before.before.before.before.before.before.before.before.if1.false, le-leb _ _ c.before.before.before.before.before.before.before.before.before.if2.false))
-    (c.accept.ensures ∙ rw c.before.segment_units.ensures (segment_header a.w a.s.now (head_of a.h) r.count r.first c.before.before.before.before.before.before.before.before.before.before.before.before.before.before.before.before.before.before.requires.1.kind_is))
+    (c.accept.ensures ∙ rw c.before.segment_units.ensures (segment_header a.priced a.s.now (head_of a.h) r.count r.first c.before.before.before.before.before.before.before.before.before.before.before.before.before.before.before.before.before.before.requires.form_is))
     (rw column_length f.0)
     (rw column_length f.1)
 

@@ -11,15 +11,15 @@ use Rattle.record.proofs.segments.segments.Statement.{statement}
 use Rattle.record.proofs.segments.segments.Tie as tie
 
 abbrev invariant_loop : tie.invariant_loop
-invariant_loop s n w d₀ left₀ d left =
-    (segments w s left (sums d) ≡ segments w s left₀ (sums d₀))
-    × ((d.at + left * size w ≡ d₀.at + left₀ * size w) × ((d.at ≤ length s) × Kept (sums d)))
+invariant_loop s n priced d₀ left₀ d left =
+    (segments priced s left (sums d) ≡ segments priced s left₀ (sums d₀))
+    × ((d.at + left * size priced ≡ d₀.at + left₀ * size priced) × ((d.at ≤ length s) × Kept (sums d)))
 
 abbrev decreases_loop : tie.decreases_loop
-decreases_loop s n w d₀ left₀ d left = left
+decreases_loop s n priced d₀ left₀ d left = left
 
 loop_holds : tie.Need-loop-init invariant_loop decreases_loop
-loop_holds c = (refl, (refl, c.before.requires.1))
+loop_holds c = (refl, (refl, c.before.requires))
 
 segment_requires : tie.Need-segment-requires invariant_loop decreases_loop
 segment_requires c κs = search rules
@@ -42,14 +42,14 @@ loop_less c = omega arith
 loop_again : tie.Need-loop-preserved invariant_loop decreases_loop
 loop_again c =
     let m = rw c.before.next.given.1 at c.before.before.before.segment.ensures.reached in
-    let l = one_less c.before.before.before.before.before.loop.left (size c.before.before.before.before.before.before.before.args.w) c.before.before.before.before.loop-test.true in
+    let l = one_less c.before.before.before.before.before.loop.left (size c.before.before.before.before.before.before.before.args.priced) c.before.before.before.before.loop-test.true in
     (sym (segments_next _ _ _ _ _ c.before.before.before.before.loop-test.true (asked view_step c.before.before.before.segment.ensures.meets c.before.next.given.1)) ∙ c.before.before.before.before.before.loop.invariant.0, (omega arith, m.1))
 
 returns_2 : tie.Need-returns-2 invariant_loop decreases_loop
 returns_2 c =
     record {
       meets = sym (segments_end _ _ _ _ c.loop-test.false) ∙ c.before.loop.invariant.0;
-      reached = (omega (arith, none_left c.before.loop.left (size c.before.before.before.args.w) c.loop-test.false), c.before.loop.invariant.1.1);
+      reached = (omega (arith, none_left c.before.loop.left (size c.before.before.before.args.priced) c.loop-test.false), c.before.loop.invariant.1.1);
     }
 
 pub segments_spec : {M : Type 1} → statement M

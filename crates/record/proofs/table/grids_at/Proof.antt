@@ -16,7 +16,7 @@ array_share_prefix_units : tie.Need-array-share-prefix-units
 array_share_prefix_units c = search rules
 
 slice_aggregate_row_count : tie.Need-slice-aggregate-row-count
-slice_aggregate_row_count c = units_front _ _ _ _ _ c.before.units_of.ensures
+slice_aggregate_row_count c = units_front _ _ _ _ c.before.units_of.ensures
 
 row_count_requires : tie.Need-row-count-requires
 row_count_requires c κs = search rules
@@ -39,7 +39,7 @@ array_share_prefix_units_2 : tie.Need-array-share-prefix-units-2
 array_share_prefix_units_2 c = search rules
 
 slice_aggregate_grid_at : tie.Need-slice-aggregate-grid-at
-slice_aggregate_grid_at c = units_front _ _ _ _ _ c.before.before.before.before.units_of.ensures
+slice_aggregate_grid_at c = units_front _ _ _ _ c.before.before.before.before.units_of.ensures
 
 grid_at_requires : tie.Need-grid-at-requires
 grid_at_requires c κs = units_counted c.before.before.before.before.before.before.requires c.before.before.before.before.units_of.ensures (rows_read c.before)
@@ -54,7 +54,7 @@ array_share_prefix_units_3 : tie.Need-array-share-prefix-units-3
 array_share_prefix_units_3 c = search rules
 
 slice_aggregate_grid_at_2 : tie.Need-slice-aggregate-grid-at-2
-slice_aggregate_grid_at_2 c = units_front _ _ _ _ _ c.before.before.before.before.before.before.before.before.before.units_of.ensures
+slice_aggregate_grid_at_2 c = units_front _ _ _ _ c.before.before.before.before.before.before.before.before.before.units_of.ensures
 
 grid_at_requires_2 : tie.Need-grid-at-requires-2
 grid_at_requires_2 c κs = units_counted c.before.before.before.before.before.before.before.before.before.before.before.requires c.before.before.before.before.before.before.before.before.before.units_of.ensures (rows_read c.before.before.before.before.before.before)

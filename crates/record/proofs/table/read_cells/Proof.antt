@@ -23,7 +23,7 @@ array_share_prefix_units : tie.Need-array-share-prefix-units
 array_share_prefix_units c = search rules
 
 slice_aggregate_fill_cells : tie.Need-slice-aggregate-fill-cells
-slice_aggregate_fill_cells c = units_front _ _ _ _ _ c.before.before.before.units_of.ensures
+slice_aggregate_fill_cells c = units_front _ _ _ _ c.before.before.before.units_of.ensures
 
 fill_cells_requires : tie.Need-fill-cells-requires
 fill_cells_requires c κs =
@@ -53,7 +53,7 @@ array_share_prefix_units_2 : tie.Need-array-share-prefix-units-2
 array_share_prefix_units_2 c = search rules
 
 slice_aggregate_fill_cells_2 : tie.Need-slice-aggregate-fill-cells-2
-slice_aggregate_fill_cells_2 c = units_front _ _ _ _ _ c.before.before.before.before.before.before.before.before.before.units_of.ensures
+slice_aggregate_fill_cells_2 c = units_front _ _ _ _ c.before.before.before.before.before.before.before.before.before.units_of.ensures
 
 fill_cells_requires_2 : tie.Need-fill-cells-requires-2
 fill_cells_requires_2 c κs =
@@ -145,7 +145,7 @@ returns_5 c =
     let vr = values_read c.before.before.before.before.before.before.before.before.before.before.before.before.before.before.before.before.before.before in
     accepts (table_contract s h t) _ _
     (said_cells _ _ _ _ _ (cr.rises_is ∙ not-false _ c.before.before.before.before.before.before.before.before.before.before.before.before.before.before.before.before.before.before.before.before.before.if1.false) (vr.rises_is ∙ not-false _ c.before.before.before.before.before.before.before.before.before.before.before.before.before.before.before.if2.false) ∙ simp (le-leb _ _ c.before.before.before.before.before.before.before.before.before.before.before.before.before.if3.false, le-leb _ _ c.before.before.before.before.before.before.before.before.before.before.before.if4.false))
-    (c.accept.ensures ∙ table_header h t c.before.before.before.before.before.before.before.before.before.before.before.before.before.before.before.before.before.before.before.before.before.before.before.before.before.before.before.before.before.before.before.before.before.before.before.before.requires.laid.items c.before.before.before.before.before.before.before.before.before.before.before.before.before.before.before.before.before.before.before.before.before.before.before.before.before.before.before.before.before.before.before.before.before.before.before.before.requires.head.kind_is c.before.before.before.before.before.before.before.before.before.before.before.before.before.before.before.before.before.before.before.before.before.before.before.before.before.before.before.before.before.units_of.ensures)
+    (c.accept.ensures ∙ table_header h t c.before.before.before.before.before.before.before.before.before.before.before.before.before.before.before.before.before.before.before.before.before.before.before.before.before.before.before.before.before.before.before.before.before.before.before.before.requires.laid.items c.before.before.before.before.before.before.before.before.before.before.before.before.before.before.before.before.before.before.before.before.before.before.before.before.before.before.before.before.before.before.before.before.before.before.before.before.requires.head.form_is c.before.before.before.before.before.before.before.before.before.before.before.before.before.before.before.before.before.before.before.before.before.before.before.before.before.before.before.before.before.units_of.ensures)
     (rw cr.cells_are at c.before.before.before.before.before.before.before.before.store_cells.ensures)
     (rw vr.cells_are at c.before.before.before.store-cells2.ensures)
 

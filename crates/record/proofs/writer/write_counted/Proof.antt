@@ -1,4 +1,4 @@
-use mathlib.Core.Path.{refl, sym, ◌∙◌}
+use mathlib.Core.Path.{sym, ◌∙◌}
 use mathlib.Core.Logic.{inl, inr}
 use borrow.Author.Rules.{rules}
 use borrow.Author.Tests.{not-true, not-false}
@@ -17,16 +17,13 @@ enum_told : tie.Need-enum-told
 enum_told c = search rules
 
 write_segments_requires : tie.Need-write-segments-requires
-write_segments_requires c κs = record { counts = c.before.before.before.before.before.before.before.before.before.requires; is_run = inl (c.before.enum_told.given.1, refl); within = sym c.before.before.before.before.within_limit_lem.ensures ∙ not-false _ c.before.before.before.if1.false }
+write_segments_requires c κs = record { counts = c.before.before.before.before.before.before.before.before.before.requires; is_run = inl c.before.enum_told.given.1; within = sym c.before.before.before.before.within_limit_lem.ensures ∙ not-false _ c.before.before.before.if1.false }
 
 enum_told_2 : tie.Need-enum-told-2
 enum_told_2 c = search rules
 
-width_for_requires : tie.Need-width-for-requires
-width_for_requires c κs = search rules
-
 write_segments_requires_2 : tie.Need-write-segments-requires-2
-write_segments_requires_2 c κs = record { counts = c.before.before.before.before.before.before.before.before.before.before.requires; is_run = inr (c.before.before.enum-told2.given.1, c.before.width_for.ensures); within = sym c.before.before.before.before.before.within_limit_lem.ensures ∙ not-false _ c.before.before.before.before.if1.false }
+write_segments_requires_2 c κs = record { counts = c.before.before.before.before.before.before.before.before.before.requires; is_run = inr c.before.enum-told2.given.1; within = sym c.before.before.before.before.within_limit_lem.ensures ∙ not-false _ c.before.before.before.if1.false }
 
 enum_told_3 : tie.Need-enum-told-3
 enum_told_3 c = search rules
@@ -61,7 +58,6 @@ write_counted_spec =
     enum_told
     write_segments_requires
     enum_told_2
-    width_for_requires
     write_segments_requires_2
     enum_told_3
     write_table_requires

@@ -2,7 +2,6 @@ use native.Mathlib.Omega.{arith}
 use borrow.Author.Rules.{rules}
 use Rattle.contract.proofs.Lengths.{digits_all_length}
 use Rattle.area.proofs.PutLaws.{puts_then}
-use Rattle.record.proofs.PutLaws.{head_length}
 use Rattle.record.proofs.WriteLaws.{short, written, laid, map_size_lem, grid_size, table_ready, table_length}
 use Rattle.record.proofs.writer.write_grids.Statement.{statement}
 use Rattle.record.proofs.writer.write_grids.Tie as tie
@@ -38,17 +37,17 @@ put_head_requires : tie.Need-put-head-requires
 put_head_requires c κs = search rules
 
 put_units_requires : tie.Need-put-units-requires
-put_units_requires c κs = omega (arith, head_length c.before.before.before.before.before.before.before.before.before.before.before.before.before.before.before.args.header c.before.before.before.before.before.before.before.before.before.before.before.before.before.before.before.args.units.now)
+put_units_requires c κs = search rules
 
 put_grid_requires : tie.Need-put-grid-requires
 put_grid_requires c κs =
     let m = c.before.before.before.before.before.before.before.before.before.before.before.before.before.before.before.before.before.before.before.requires in
-    omega (arith, head_length c.before.before.before.before.before.before.before.before.before.before.before.before.before.before.before.before.before.before.before.args.header c.before.before.before.before.before.before.before.before.before.before.before.before.before.before.before.before.before.before.before.args.units.now, digits_all_length 1 c.before.before.before.before.before.before.before.before.before.before.before.before.before.before.before.before.before.before.before.args.units.now, grid_size _ _ _ m.cost_map_lem)
+    omega (arith, digits_all_length 1 c.before.before.before.before.before.before.before.before.before.before.before.before.before.before.before.before.before.before.before.args.units.now, grid_size _ _ _ m.cost_map_lem)
 
 put_grid_requires_2 : tie.Need-put-grid-requires-2
 put_grid_requires_2 c κs =
     let m = c.before.before.before.before.before.before.before.before.before.before.before.before.before.before.before.before.before.before.before.before.before.before.before.requires in
-    omega (arith, head_length c.before.before.before.before.before.before.before.before.before.before.before.before.before.before.before.before.before.before.before.before.before.before.before.args.header c.before.before.before.before.before.before.before.before.before.before.before.before.before.before.before.before.before.before.before.before.before.before.before.args.units.now, digits_all_length 1 c.before.before.before.before.before.before.before.before.before.before.before.before.before.before.before.before.before.before.before.before.before.before.before.args.units.now, grid_size _ _ _ m.cost_map_lem, grid_size _ _ _ m.value_map_lem)
+    omega (arith, digits_all_length 1 c.before.before.before.before.before.before.before.before.before.before.before.before.before.before.before.before.before.before.before.before.before.before.before.args.units.now, grid_size _ _ _ m.cost_map_lem, grid_size _ _ _ m.value_map_lem)
 
 same_length : tie.Need-same-length
 same_length c = search rules

@@ -1,9 +1,7 @@
-use native.Mathlib.Nat.{mul-le-mul_right}
 use native.Mathlib.Omega.{arith}
 use borrow.Author.Rules.{rules}
-use lib.ListN.{length}
 use Rattle.area.proofs.PutLaws.{puts_then}
-use Rattle.record.proofs.PutLaws.{head_length, run_length}
+use Rattle.record.proofs.PutLaws.{run_length}
 use Rattle.record.proofs.WriteLaws.{short, written, storable, segments_length}
 use Rattle.record.proofs.writer.write_segments.Statement.{statement}
 use Rattle.record.proofs.writer.write_segments.Tie as tie
@@ -12,28 +10,34 @@ head_len_requires : tie.Need-head-len-requires
 head_len_requires c κs = search rules
 
 add_n : tie.Need-overflow-add-n
-add_n c = let s = storable c.before.before.before.before.before.requires in omega (arith, s.run.width)
+add_n c = search rules
 
 mul_n : tie.Need-overflow-mul-n
-mul_n c = let s = storable c.before.before.before.before.before.requires in omega (arith, mul-le-mul_right (length c.before.before.before.before.before.args.costs.now) s.run.width, s.few_costs)
+mul_n c = search rules
 
 add_n_2 : tie.Need-overflow-add-n-2
-add_n_2 c = let s = storable c.before.before.before.before.before.requires in omega (arith, mul-le-mul_right (length c.before.before.before.before.before.args.costs.now) s.run.width, s.few_costs)
+add_n_2 c = omega (arith, storable c.before.before.before.before.before.requires)
 
 returns : tie.Need-returns
-returns c = let s = storable c.before.before.before.before.before.before.requires in short s.ready (omega (arith, segments_length s))
+returns c =
+    let s = storable c.before.before.before.before.before.before.requires in
+    short s.ready (omega (arith, segments_length s))
 
 put_head_requires : tie.Need-put-head-requires
 put_head_requires c κs = search rules
 
 put_segments_requires : tie.Need-put-segments-requires
-put_segments_requires c κs = let s = storable c.before.before.before.before.before.before.before.before.before.before.before.requires in (s.run, omega (arith, run_length _ c.before.before.before.before.before.before.before.before.before.before.before.args.units.now _ _ s.run, head_length c.before.before.before.before.before.before.before.before.before.before.before.args.header c.before.before.before.before.before.before.before.before.before.before.before.args.units.now))
+put_segments_requires c κs =
+    let s = storable c.before.before.before.before.before.before.before.before.before.before.before.requires in
+    (s.run, omega (arith, run_length _ _ _ s.run))
 
 same_length : tie.Need-same-length
 same_length c = search rules
 
 returns_2 : tie.Need-returns-2
-returns_2 c = let s = storable c.before.before.before.before.before.before.before.before.before.before.before.before.before.before.requires in written s.ready (omega (arith, segments_length s)) (puts_then c.before.before.before.before.before.before.put_head.ensures c.before.before.put_segments.ensures)
+returns_2 c =
+    let s = storable c.before.before.before.before.before.before.before.before.before.before.before.before.before.before.requires in
+    written s.ready (omega (arith, segments_length s)) (puts_then c.before.before.before.before.before.before.put_head.ensures c.before.before.put_segments.ensures)
 
 pub write_segments_spec : {M : Type 1} → statement M
 write_segments_spec =

@@ -1,0 +1,23 @@
+use borrow.Author.Tests.{eq-eqb, ne_eqb}
+use Rattle.contract.specs.Field.{form_of}
+use Rattle.record.proofs.head.form_of.Statement.{statement}
+use Rattle.record.proofs.head.form_of.Tie as tie
+
+returns : tie.Need-returns
+unfolding form_of
+returns c = simp (eq-eqb _ _ c.if1.true)
+
+returns_2 : tie.Need-returns-2
+unfolding form_of
+returns_2 c = simp (ne_eqb _ _ c.before.if1.false, eq-eqb _ _ c.if2.true)
+
+returns_3 : tie.Need-returns-3
+unfolding form_of
+returns_3 c = simp (ne_eqb _ _ c.before.before.if1.false, ne_eqb _ _ c.before.if2.false, eq-eqb _ _ c.if3.true)
+
+returns_4 : tie.Need-returns-4
+unfolding form_of
+returns_4 c = simp (ne_eqb _ _ c.before.before.if1.false, ne_eqb _ _ c.before.if2.false, ne_eqb _ _ c.if3.false)
+
+pub form_of_spec : {M : Type 1} → statement M
+form_of_spec = tie.close (tie.spec returns returns_2 returns_3 returns_4)

@@ -1,0 +1,24 @@
+use borrow.Author.Rules.{rules}
+use Rattle.record.proofs.output.form_bit.Statement.{statement}
+use Rattle.record.proofs.output.form_bit.Tie as tie
+
+enum_told : tie.Need-enum-told
+enum_told c = search rules
+
+enum_told_2 : tie.Need-enum-told-2
+enum_told_2 c = search rules
+
+enum_told_3 : tie.Need-enum-told-3
+enum_told_3 c = search rules
+
+returns : tie.Need-returns
+returns c = (rw c.enum_told.given.1, search rules)
+
+returns_2 : tie.Need-returns-2
+returns_2 c = (rw c.enum-told2.given.1, search rules)
+
+returns_3 : tie.Need-returns-3
+returns_3 c = (rw c.enum-told3.given.1, search rules)
+
+pub form_bit_spec : {M : Type 1} → statement M
+form_bit_spec = tie.close (tie.spec enum_told enum_told_2 enum_told_3 returns returns_2 returns_3)
