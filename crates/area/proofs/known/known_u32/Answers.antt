@@ -1,0 +1,32 @@
+use native.Mathlib.Omega.{arith}
+use Rattle.area.specs.Entries.{num}
+use Rattle.area.proofs.Laws.{entry_room, entry_num}
+use Rattle.area.proofs.known.known_u32.Goals as goal
+
+pub overflow_mul-i : goal.overflow_mul-i
+overflow_mul-i c = omega (arith, entry_room 4 _ _ c.requires (omega arith))
+
+pub overflow_add-j : goal.overflow_add-j
+overflow_add-j c = omega (arith, entry_room 4 _ _ c.requires (omega arith))
+
+pub overflow_add-l : goal.overflow_add-l
+overflow_add-l c = omega (arith, entry_room 4 _ _ c.requires (omega arith))
+
+pub overflow_add-m : goal.overflow_add-m
+overflow_add-m c = omega (arith, entry_room 4 _ _ c.requires (omega arith))
+
+pub bounds-area-i : goal.bounds-area-i
+bounds-area-i c = omega (arith, entry_room 4 _ _ c.requires (omega arith))
+
+pub bounds-area-j : goal.bounds-area-j
+bounds-area-j c = omega (arith, entry_room 4 _ _ c.requires (omega arith))
+
+pub bounds-area-l : goal.bounds-area-l
+bounds-area-l c = omega (arith, entry_room 4 _ _ c.requires (omega arith))
+
+pub bounds-area-m : goal.bounds-area-m
+bounds-area-m c = omega (arith, entry_room 4 _ _ c.requires (omega arith))
+
+pub returns : goal.returns
+unfolding num
+returns c = omega (arith, entry_num 4 _ _ c.requires)
