@@ -1,4 +1,6 @@
 // A contract as plain data, and the refusals of its record.
+#![tactic(auto)]
+
 ghost use Rattle.std.specs.Prelude.{◌≡◌, ◌<◌};
 ghost use Rattle.contract.specs.Contract.{number_of};
 

@@ -24,13 +24,13 @@ pub difference : (a b : ℕ) → a < 2 ^ 63 → b < 2 ^ 63 → SFits w64 (to_z w
 difference a b ha hb =
     let e : to_z w64 a -ℤ to_z w64 b ≡ sub_ℕ a b = rw (to_z_pos w64 ha, to_z_pos w64 hb) (pos_sub a b) in
     let f : SFits w64 (to_z w64 a -ℤ to_z w64 b) = rw e (sub_fits a b ha hb) in
-    (f, to_z-of_z f ∙ e)
+    (f, to_z-of_z {w = w64} f ∙ e)
 
 -- ---- comparing a paid sum, cast to i64, with a bound
 
 module _ (n : ℕ) (z : ℤ) (hn : n < 2 ^ 63) (hz : mag z < 2 ^ 63) where
   held : to_z w64 (of_z w64 z) ≡ z
-  held = to_z-of_z (record { sfits = hz })
+  held = to_z-of_z {w = w64} (record { sfits = hz })
 
   pub low_test : le_z z (pos n) ≡ not (lt_z (to_z w64 n) (to_z w64 (of_z w64 z)))
   low_test = rw (held, to_z_pos w64 hn) (le_z_not (pos n) z)

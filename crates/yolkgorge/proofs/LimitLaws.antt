@@ -53,7 +53,7 @@ Unsigned y = T (non_neg y) × Fits w64 (nat_abs y)
 
 module _ (z : ℤ) (h : SFits w64 z) where
   held : to_z w64 (of_z w64 z) ≡ z
-  held = to_z-of_z h
+  held = to_z-of_z {w = w64} h
 
   module _ (t : lt_z (to_z w64 (of_z w64 z)) (pos 0) ≡ true) where
     below : lt_z z (pos 0) ≡ true
@@ -66,7 +66,7 @@ module _ (z : ℤ) (h : SFits w64 z) where
     turned_fits = subst⁻¹ (λ (y : ℤ). SFits w64 y) turned (record { sfits = h.sfits })
 
     turned_read : to_z w64 (of_z w64 (negsuc 0 -ℤ to_z w64 (of_z w64 z))) ≡ pos (mag z)
-    turned_read = to_z-of_z turned_fits ∙ turned
+    turned_read = to_z-of_z {w = w64} turned_fits ∙ turned
 
     small : mag z < 2 ^ 63
     small = h.sfits

@@ -28,8 +28,8 @@ returns : tie.Need-returns
 returns c =
     let lo = c.before.before.before.lower.result in
     let hi = c.upper.result in
-    let k : to_z w64 (of_z w64 lo) ≡ lo = to_z-of_z (search rules) in
-    let m : to_z w64 (of_z w64 hi) ≡ hi = to_z-of_z (search rules) in
+    let k : to_z w64 (of_z w64 lo) ≡ lo = to_z-of_z {w = w64} (search rules) in
+    let m : to_z w64 (of_z w64 hi) ≡ hi = to_z-of_z {w = w64} (search rules) in
     rw (k, m, c.before.before.before.lower.ensures, c.upper.ensures, c.before.before.before.before.before.last_cell.ensures, c.before.before.before.before.cell.ensures, c.before.before.last-cell2.ensures, c.before.cell2.ensures)
 
 pub row_bounds_spec : {M : Type 1} → statement M

@@ -1,7 +1,7 @@
 -- The units, costs and values of the segments that were written are read back, each as a column. Assumes nothing.
 use mathlib.Core.Path.{◌≡◌, refl, ◌∙◌}
 use mathlib.Core.Bool.{Bool, true}
-use mathlib.Core.List.{List, [], ◌∷◌}
+use mathlib.Core.List.{List, ◌∷◌}
 use Prim.Native.Nat.{ℕ, suc, ◌+◌}
 use native.Mathlib.Omega.{arith}
 use lib.ListN.{length}
@@ -23,10 +23,10 @@ pub record Columns (p : Bool) (s : List ℕ) (i : ℕ) (us cs vs : List ℕ) : T
 column_more : (w : ℕ) (s : List ℕ) (i j d n : ℕ) {x : ℕ} {xs : List ℕ} → num w s i ≡ x → column w s j d n ≡ xs → j ≡ i + d → column w s i d (suc n) ≡ x ∷ xs
 column_more w s i j d n a b e = column_suc w s i d n ∙ rw (← e, a, b)
 
-pub columns : {s : List ℕ} {i : ℕ} {ps : List (List ℕ)} {p : Bool} {us cs vs : List ℕ} → AllFit p us cs vs → Rest s i (segment_bytes p us cs vs ∷ ps) → Columns p s i us cs vs
+pub columns : {s : List ℕ} {p : Bool} {i : ℕ} {ps : List (List ℕ)} {us cs vs : List ℕ} → AllFit p us cs vs → Rest s i (segment_bytes p us cs vs ∷ ps) → Columns p s i us cs vs
 columns {s} none h = record { units = λ _. column_zero 1 s _ _; costs = column_zero 4 s _ _; values = column_zero 4 s _ _ }
-columns {s} {i} (more {u} {c} {v} f fs) h =
-    let next = columns fs (from_next f fs h) in
+columns {s} {p} {i} (more {u} {c} {v} f fs) h =
+    let next = columns {i = i + size p} fs (from_next f fs h) in
     record {
       units = λ e. column_more 1 s i _ _ _ (num_is 1 u (omega arith) (rw e at (from_units f fs h))) (next.units e) refl;
       costs = column_more 4 s _ _ _ _ (num_is 4 c (omega arith) (from_cost f fs h)) next.costs (omega arith);

@@ -32,4 +32,4 @@ units_are {i = i} {ps} (u ∷ us) h r =
     let (low, high, more) = units_first u us h in
     let g = cut (digits 1 u ∷ flat_map (digits 1) us ∷ ps) (simp append_assoc) r in
     let e : i + suc (length us) ≡ i + 1 + length us = omega arith in
-    rw (ranged_is 1 u g 255 (omega arith) low high, e) (units_are us more (past (digits_length 1 u) g))
+    rw (ranged_is 1 u g 255 (omega arith) low high, e) (units_are {i = i + 1} us more (past (digits_length 1 u) g))

@@ -5,6 +5,7 @@ use mathlib.Core.Logic.{◌⊎◌, inl, inr, ⊎_elim, dite}
 use mathlib.Core.List.{List, [], ◌∷◌, ◌++◌, reverse, reverse-cons}
 use Prim.Native.Nat.{ℕ, zero, suc, ◌+◌, ◌*◌, ◌≤◌, ◌<◌}
 use native.Mathlib.Decide.{ℕ_discrete, dec_lt}
+use native.Mathlib.Nat.{add-mul}
 use native.Mathlib.Omega.{arith}
 use lib.Dec.{eqb}
 use lib.ListN.{length, replicate, get_or-eq_default}
@@ -134,7 +135,7 @@ unfolding occurs
 sum_one w i [] = omega arith
 sum_one w i (x ∷ l) =
     ⊎_elim
-    (λ h. rw (h.1, sum_one w i l, h.0) (rw (eq-eqb x x refl) (omega arith)))
+    (λ h. rw (h.1, sum_one w i l, h.0) (rw (eq-eqb x x refl, add-mul) (ap (λ (y : ℕ). 1 * w x + occurs y l * w x) (sym h.0))))
     (λ h. rw (h.1, sum_one w i l, ne_eqb x i (λ e. h.0 (sym e))) (omega arith))
     (same_cases i x)
 

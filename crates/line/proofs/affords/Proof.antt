@@ -20,7 +20,7 @@ unclipped_upper_requires c κs = search rules
 returns : tie.Need-returns
 returns c =
     let hi = c.unclipped_upper.result in
-    let k : to_z w64 (of_z w64 hi) ≡ hi = to_z-of_z (search rules) in
+    let k : to_z w64 (of_z w64 hi) ≡ hi = to_z-of_z {w = w64} (search rules) in
     rw (k, to_z_pos w64 {n = c.before.args.paid} (omega arith), c.unclipped_upper.ensures)
     (le_z_same _ _ _ _ (Iff.symm (high_same _ _ _ _ c.before.args.paid c.before.requires)))
 

@@ -17,7 +17,7 @@ cast_result c = search rules
 returns : tie.Need-returns
 returns c =
     let lo = c.lower.result in
-    let k : to_z w64 (of_z w64 lo) ≡ lo = to_z-of_z (search rules) in
+    let k : to_z w64 (of_z w64 lo) ≡ lo = to_z-of_z {w = w64} (search rules) in
     rw (k, to_z_pos w64 {n = c.before.args.paid} (omega arith), c.lower.ensures)
 
 pub reaches_spec : {M : Type 1} → statement M

@@ -21,8 +21,8 @@ returns : tie.Need-returns
 returns c =
     let lo = c.before.lower.result in
     let hi = c.upper.result in
-    let k : to_z w64 (of_z w64 lo) ≡ lo = to_z-of_z (search rules) in
-    let m : to_z w64 (of_z w64 hi) ≡ hi = to_z-of_z (search rules) in
+    let k : to_z w64 (of_z w64 lo) ≡ lo = to_z-of_z {w = w64} (search rules) in
+    let m : to_z w64 (of_z w64 hi) ≡ hi = to_z-of_z {w = w64} (search rules) in
     rw (k, m, c.before.lower.ensures, c.upper.ensures)
     (cursor_bounds_lem c.before.before.before.args.l.sides _ _ _ c.before.before.before.args.l.all (known _ _ c.before.before.before.requires.0 (omega arith) (omega arith)) (cursor_of c.before.before.before.args.c) c.before.before.before.requires.1)
 

@@ -27,8 +27,8 @@ returns c =
     let x = c.before.before.before.before.before.before.before.before.before.args in
     let lo : ℤ = x.b.lower in
     let hi : ℤ = x.b.upper in
-    let k : to_z w64 (of_z w64 lo) ≡ lo = to_z-of_z (search rules) in
-    let m : to_z w64 (of_z w64 hi) ≡ hi = to_z-of_z (search rules) in
+    let k : to_z w64 (of_z w64 lo) ≡ lo = to_z-of_z {w = w64} (search rules) in
+    let m : to_z w64 (of_z w64 hi) ≡ hi = to_z-of_z {w = w64} (search rules) in
     bounds_stored x.pair.now x.b (c.before.before.before.before.before.before.bits.ensures ∙ ap bits_of k) (c.before.before.before.before.bits2.ensures ∙ ap bits_of m) c.before.before.store.ensures
 
 pub store_bounds_spec : {M : Type 1} → statement M
