@@ -17,7 +17,7 @@ use line::Totals;
 use planning::Checked;
 
 // P and the defection costs, and the number, the cost and the value of the last row.
-#[derive(Drop)]
+#[derive(Clone, Copy)]
 struct Terms {
     sides: Sides,
     all: Totals,

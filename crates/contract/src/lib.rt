@@ -5,7 +5,7 @@ ghost use Rattle.std.specs.Prelude.{◌≡◌, ◌<◌};
 ghost use Rattle.contract.specs.Contract.{number_of};
 
 // The three forms of a contract.
-#[derive(Drop)]
+#[derive(Clone, Copy)]
 pub enum Form {
     Ladder,
     UnitPrices,
@@ -13,7 +13,7 @@ pub enum Form {
 }
 
 // A contract but for its costs and values, which stand in areas of their own.
-#[derive(Drop)]
+#[derive(Clone, Copy)]
 pub struct Header {
     pub price: u32,
     // The supplier's and the buyer's defection costs.
@@ -27,7 +27,7 @@ pub struct Header {
 }
 
 // Why a record or a contract is refused.
-#[derive(Drop)]
+#[derive(Clone, Copy)]
 pub enum Refusal {
     Truncated,
     Map,

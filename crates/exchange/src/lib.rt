@@ -6,7 +6,7 @@ ghost use Rattle.exchange.specs.Rule.{coins};
 ghost use Rattle.exchange.specs.Test.{start_test};
 
 // P and the defection costs of the supplier and the buyer.
-#[derive(Drop)]
+#[derive(Clone, Copy)]
 pub struct Sides {
     pub price: u32,
     pub supplier: u32,
@@ -14,7 +14,7 @@ pub struct Sides {
 }
 
 // The answers of planning.
-#[derive(Drop)]
+#[derive(Clone, Copy)]
 pub enum Planned {
     Steps(usize),
     Impossible,
@@ -23,7 +23,7 @@ pub enum Planned {
 }
 
 // What a plan is to have fewest of. Moves are payments and deliveries together.
-#[derive(Drop)]
+#[derive(Clone, Copy)]
 pub enum Objective {
     Steps,
     Payments,
@@ -32,7 +32,7 @@ pub enum Objective {
 }
 
 // The bounds of a place. The lower is at least 0, the upper at most the price; it may be negative.
-#[derive(Drop)]
+#[derive(Clone, Copy)]
 pub struct Bounds {
     pub lower: i64,
     pub upper: i64,

@@ -73,7 +73,7 @@ fn byte(x: u8) -> usize
 }
 
 // A cell, and how many given cells are used after it.
-#[derive(Drop)]
+#[derive(Clone, Copy)]
 struct Cell {
     value: u32,
     used: usize,
@@ -132,7 +132,7 @@ pub fn fill(units: &[u16], map: &[u8], given: &[u8], cells: &mut [u32]) -> bool
 }
 
 // The map of the cells that have to be given, and whether none is below that of a row with one unit less of one item.
-#[derive(Drop)]
+#[derive(Clone, Copy)]
 pub struct Marks {
     pub rises: bool,
     pub map: [u8; 16],

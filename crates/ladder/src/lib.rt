@@ -18,7 +18,7 @@ use line::Totals;
 use place::{Rung, advance, bottom, bounds_at, next, top, value_after};
 
 // A ladder in its record: P and the defection costs, the totals of its units, and the index of its first rise.
-#[derive(Drop)]
+#[derive(Clone, Copy)]
 pub struct Ladder {
     pub sides: Sides,
     pub all: Totals,
@@ -26,7 +26,7 @@ pub struct Ladder {
 }
 
 // A first state: the rung that is delivered to, and what is paid.
-#[derive(Drop)]
+#[derive(Clone, Copy)]
 pub(crate) struct First {
     pub rung: Rung,
     pub paid: u32,

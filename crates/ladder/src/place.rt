@@ -10,7 +10,7 @@ use super::Ladder;
 use exchange::Bounds;
 
 // A place: the units delivered, and their cost and value.
-#[derive(Drop)]
+#[derive(Clone, Copy)]
 pub(crate) struct Rung {
     pub place: usize,
     pub cost: u32,

@@ -24,7 +24,7 @@ use place::{advance, bounds_at, first, leap, left};
 use sums::{Summed, add_up};
 
 // All units, and their cost and value together.
-#[derive(Drop)]
+#[derive(Clone, Copy)]
 pub struct Totals {
     pub units: usize,
     pub cost: u32,
@@ -32,7 +32,7 @@ pub struct Totals {
 }
 
 // A place along the segments: the segment of its next unit, how many units of that are delivered, and the cost and value so far.
-#[derive(Drop)]
+#[derive(Clone, Copy)]
 pub struct Cursor {
     pub place: usize,
     pub segment: usize,
@@ -42,7 +42,7 @@ pub struct Cursor {
 }
 
 // A first state: where the cursor stands, and what is paid.
-#[derive(Drop)]
+#[derive(Clone, Copy)]
 pub struct First {
     pub cursor: Cursor,
     pub paid: u32,
@@ -282,14 +282,14 @@ pub fn plan(
     Planned::Steps(n)
 }
 
-#[derive(Drop)]
+#[derive(Clone, Copy)]
 pub enum Bounded {
     Between(exchange::Bounds),
     // The segments do not fit, or the place is above all units.
     Unfit,
 }
 
-#[derive(Drop)]
+#[derive(Clone, Copy)]
 pub enum Checked {
     Safe,
     Unsafe,

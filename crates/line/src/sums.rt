@@ -6,7 +6,7 @@ ghost use Rattle.line.specs.Code.{sum_to, Sums};
 use super::Totals;
 
 // The totals of segments that fit.
-#[derive(Drop)]
+#[derive(Clone, Copy)]
 pub(crate) enum Summed {
     Fits(Totals),
     Unfit,

@@ -5,7 +5,7 @@ ghost use Rattle.planning.specs.Found.{ladder_of};
 use contract::Refusal;
 
 // The step count of a plan, or why there is none.
-#[derive(Drop)]
+#[derive(Clone, Copy)]
 pub enum Planned {
     Refused(Refusal),
     // No plan exists in any order.
@@ -14,7 +14,7 @@ pub enum Planned {
 }
 
 // The bounds of a place, or why they are refused.
-#[derive(Drop)]
+#[derive(Clone, Copy)]
 pub enum Bounded {
     Refused(Refusal),
     // The order bytes do not name each item once.
@@ -23,7 +23,7 @@ pub enum Bounded {
 }
 
 // Whether a brought plan is accepted.
-#[derive(Drop)]
+#[derive(Clone, Copy)]
 pub enum Checked {
     Refused(Refusal),
     // It is not a plan of the deal along the order that its bytes name.

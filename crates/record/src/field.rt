@@ -10,7 +10,7 @@ use contract::Refusal;
 pub(crate) const LIMIT: u64 = 1_000_000_000;
 
 // A number, and the index after it.
-#[derive(Drop)]
+#[derive(Clone, Copy)]
 pub(crate) enum Field {
     Refused(Refusal),
     Got(u64, usize),

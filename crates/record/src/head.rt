@@ -6,7 +6,7 @@ ghost use Rattle.record.specs.View.Head.{view_form, Heads};
 use super::field::{Field, half, money};
 use contract::{Form, Refusal};
 
-#[derive(Drop)]
+#[derive(Clone, Copy)]
 pub(crate) struct Head {
     pub form: Form,
     pub price: u64,
@@ -15,13 +15,13 @@ pub(crate) struct Head {
     pub next: usize,
 }
 
-#[derive(Drop)]
+#[derive(Clone, Copy)]
 pub(crate) enum HeadReply {
     Refused(Refusal),
     Got(Head),
 }
 
-#[derive(Drop)]
+#[derive(Clone, Copy)]
 enum FormReply {
     Refused(Refusal),
     Is(Form),

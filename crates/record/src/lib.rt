@@ -19,28 +19,28 @@ mod writer;
 use contract::{Form, Header, Refusal};
 
 // Whether a record was read.
-#[derive(Drop)]
+#[derive(Clone, Copy)]
 pub enum Reply {
     Refused(Refusal),
     Accepted,
 }
 
 // The reply, and the contract's header; an empty one beside a refusal.
-#[derive(Drop)]
+#[derive(Clone, Copy)]
 pub struct Outcome {
     pub reply: Reply,
     pub header: Header,
 }
 
 // The length of the record that was written.
-#[derive(Drop)]
+#[derive(Clone, Copy)]
 pub enum Written {
     Refused(Refusal),
     Bytes(usize),
 }
 
 // A ladder in its record: P and the defection costs, where its rises begin, how many units there are, and the total cost and value.
-#[derive(Drop)]
+#[derive(Clone, Copy)]
 pub struct Ladder {
     pub price: u32,
     pub supplier: u32,
@@ -52,7 +52,7 @@ pub struct Ladder {
 }
 
 // What finding a ladder answers.
-#[derive(Drop)]
+#[derive(Clone, Copy)]
 pub enum Found {
     Refused(Refusal),
     Ladder(Ladder),

@@ -16,7 +16,7 @@ use super::{Outcome, accept, refuse};
 use contract::Refusal;
 
 // Running totals and the index reached.
-#[derive(Drop)]
+#[derive(Clone, Copy)]
 pub(crate) struct Cursor {
     pub at: usize,
     pub units: u64,
@@ -24,7 +24,7 @@ pub(crate) struct Cursor {
     pub value: u64,
 }
 
-#[derive(Drop)]
+#[derive(Clone, Copy)]
 pub(crate) enum Step {
     Refused(Refusal),
     Next(Cursor),
@@ -172,7 +172,7 @@ fn segment_count(s: &[u8], at: usize, priced: bool) -> Field
 }
 
 // The segments of a record: how many, where the first begins, and the totals.
-#[derive(Drop)]
+#[derive(Clone, Copy)]
 pub(crate) struct Run {
     pub count: usize,
     pub first: usize,
@@ -180,7 +180,7 @@ pub(crate) struct Run {
     pub value: u64,
 }
 
-#[derive(Drop)]
+#[derive(Clone, Copy)]
 pub(crate) enum RunReply {
     Refused(Refusal),
     Found(Run),

@@ -16,7 +16,7 @@ use super::rows::{all_within, copy, copy_given, last_within, ones, units_of};
 use super::{Outcome, accept, refuse};
 use contract::Refusal;
 
-#[derive(Drop)]
+#[derive(Clone, Copy)]
 pub(crate) enum Index {
     Refused(Refusal),
     At(usize),
@@ -45,7 +45,7 @@ fn units_at(s: &[u8], n: u64, at: usize) -> Index
 
 // Where a row map begins, where its cells begin, and the index after them; and whether every cell is given and none is below that of a row
 // with one unit less of one item.
-#[derive(Drop)]
+#[derive(Clone, Copy)]
 pub(crate) struct Grid {
     pub map: usize,
     pub cells: usize,
@@ -53,7 +53,7 @@ pub(crate) struct Grid {
     pub rises: bool,
 }
 
-#[derive(Drop)]
+#[derive(Clone, Copy)]
 pub(crate) enum GridReply {
     Refused(Refusal),
     Got(Grid),
@@ -117,7 +117,7 @@ fn grid_at(s: &[u8], units: &[u16], rows: usize, map: usize) -> GridReply
 }
 
 // Where a table's units lie, its rows, and its two grids.
-#[derive(Drop)]
+#[derive(Clone, Copy)]
 pub(crate) struct Layout {
     pub units: usize,
     pub after: usize,
@@ -126,7 +126,7 @@ pub(crate) struct Layout {
     pub values: Grid,
 }
 
-#[derive(Drop)]
+#[derive(Clone, Copy)]
 pub(crate) enum LayoutReply {
     Refused(Refusal),
     Got(Layout),

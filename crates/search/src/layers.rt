@@ -8,7 +8,7 @@ use super::{NEVER, Terms, UNREACHED};
 // How many steps are searched, and which rows can offer something new, by their places in the order in which rows are reached. From `from` on
 // stand those that were reached in the step before the last one and now need their floor, from `fresh` up to `end` those reached in the last
 // one, which need their first sum.
-#[derive(Drop)]
+#[derive(Clone, Copy)]
 struct Window {
     step: usize,
     from: usize,

@@ -16,7 +16,7 @@ use layers::count_steps;
 use limits::{all_caps, all_floors};
 
 // P and the defection costs, and the number of rows.
-#[derive(Drop)]
+#[derive(Clone, Copy)]
 struct Terms {
     sides: Sides,
     rows: usize,

@@ -13,7 +13,7 @@ mod step;
 use planning::Checked;
 
 // The number of steps passed, and the marks of the open step: what of it is delivered and what is paid.
-#[derive(Drop)]
+#[derive(Clone, Copy)]
 pub struct Session {
     pub passed: usize,
     pub delivered: bool,
@@ -21,14 +21,14 @@ pub struct Session {
 }
 
 // The side of a step that a report names.
-#[derive(Drop)]
+#[derive(Clone, Copy)]
 pub enum Side {
     Delivery,
     Payment,
 }
 
 // The reply to a report.
-#[derive(Drop)]
+#[derive(Clone, Copy)]
 pub enum Reply {
     Taken,
     // An area has fewer entries than the count says.
@@ -39,14 +39,14 @@ pub enum Reply {
 }
 
 // A reply, and the session after the report.
-#[derive(Drop)]
+#[derive(Clone, Copy)]
 pub struct Reported {
     pub reply: Reply,
     pub session: Session,
 }
 
 // The answer of the check, and the session that it opens.
-#[derive(Drop)]
+#[derive(Clone, Copy)]
 pub struct Opened {
     pub reply: Checked,
     pub session: Session,

@@ -1,0 +1,15 @@
+-- `line::meets` meets its contract. Assumes nothing.
+use mathlib.Core.Path.{◌≡◌}
+use mir.Syntax.{w64}
+use mir.Val.{to_z, of_z}
+use mir.Facts.{to_z-of_z}
+use borrow.Author.Rules.{rules}
+use Rattle.line.proofs.meets.Goals as goal
+
+pub returns : goal.returns
+returns c =
+    let lo = c.unclipped_lower-lower.result in
+    let hi = c.unclipped_upper-upper.result in
+    let k : to_z w64 (of_z w64 lo) ≡ lo = to_z-of_z {w = w64} (search rules) in
+    let m : to_z w64 (of_z w64 hi) ≡ hi = to_z-of_z {w = w64} (search rules) in
+    rw (k, m, c.unclipped_lower-lower.ensures, c.unclipped_upper-upper.ensures)
