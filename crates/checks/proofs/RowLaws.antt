@@ -130,15 +130,15 @@ module _ (s : Sides) (us cs vs : List ℕ) (n : ℕ) (places sums : List ℕ) wh
 
     -- the test of the start
     module _ {r : Bool} (e : r ≡ start_test s.price (get_or cs (length cs - 1) 0) (get_or cs 0 0) (get_or vs (length cs - 1) 0) (get_or vs 0 0)) where
-      start_test : (r ≡ true) ↔ Safe d 0 0
-      start_test = rw (e, costs_rows s us cs vs b.valid) (start_test↔ (table_terms s us cs vs) (holds_row us))
+      start_test_lem : (r ≡ true) ↔ Safe d 0 0
+      start_test_lem = rw (e, costs_rows s us cs vs b.valid) (start_test↔ (table_terms s us cs vs) (holds_row us))
 
       -- no plan sets out from an unsafe start
       pub unsafe_start : not r ≡ true → Judges d (plan_in n places sums) (refused 12)
-      unsafe_start y = none (λ p. subst T (sym (start_test.1 (plan_start d rising _ p)) ∙ not-true r y) tt)
+      unsafe_start y = none (λ p. subst T (sym (start_test_lem.1 (plan_start d rising _ p)) ∙ not-true r y) tt)
 
       pub started : not r ≡ false → Safe d 0 0
-      started y = start_test.0 (not-false r y)
+      started y = start_test_lem.0 (not-false r y)
 
     pub passed_start : Safe d 0 0 → Passed 0 0 0
     passed_start safe =

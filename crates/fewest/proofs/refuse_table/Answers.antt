@@ -1,0 +1,13 @@
+-- `fewest::refuse_table` meets its contract, by what was read. Assumes nothing.
+use native.Mathlib.Omega.{arith}
+use Rattle.contract.specs.declared.Form.TheVariants.{Table}
+use Rattle.record.proofs.FindLaws.{found_form, found_whole}
+use Rattle.planning.proofs.ReadLaws.{read_refused, read_accepted}
+use Rattle.fewest.proofs.PlanLaws.{record_refused, table_refused}
+use Rattle.fewest.proofs.refuse_table.Goals as goal
+
+pub returns-in-Refused : goal.returns-in-Refused
+returns-in-Refused c = record_refused c.args.bytes.now _ (read_refused _ _ _ (found_whole Table c.args.bytes.now c.requires 128 (omega arith)) _ _ _ c.read-read.ensures _ c.in-Refused.is)
+
+pub returns-in-Accepted : goal.returns-in-Accepted
+returns-in-Accepted c = let said = read_accepted _ _ _ (found_whole Table c.args.bytes.now c.requires 128 (omega arith)) _ _ _ c.read-read.ensures c.in-Accepted.is in table_refused c.args.bytes.now _ said (found_form Table c.args.bytes.now c.requires _ said)
