@@ -6,10 +6,6 @@ use Rattle.text.proofs.Fields.{decimal_short}
 use borrow.Author.Rules.{rules}
 use Rattle.text.proofs.put_refusal.Goals as goal
 
--- UNKNOWN
-slice_aggregate_put_bytes : tie.Need-slice-aggregate-put-bytes
-slice_aggregate_put_bytes c = search rules
-
 pub put_number-requires : goal.put_number-requires
 put_number-requires c =
     let f = decimal_short 9 c.args.number (search rules) in
@@ -17,8 +13,10 @@ put_number-requires c =
 
 pub returns : goal.returns
 unfolding text
-returns c = (
-  puts_then c.put_bytes-at.ensures c.put_number.ensures.0,
-  let f = decimal_short 9 c.args.number (search rules) in
-      omega (arith, f, c.requires, c.put_bytes-at.ensures.next, c.put_number.ensures.1, puts_length c.put_bytes-at.ensures, puts_length c.put_number.ensures.0),
-)
+returns c =
+    let f = decimal_short 9 c.args.number (search rules) in
+    record {
+      puts = puts_then c.put_bytes-at.ensures c.put_number.ensures.puts;
+      upper_bound =
+        omega (arith, f, c.requires, c.put_bytes-at.ensures.next, c.put_number.ensures.value, puts_length c.put_bytes-at.ensures, puts_length c.put_number.ensures.puts);
+    }

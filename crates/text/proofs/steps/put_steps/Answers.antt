@@ -27,4 +27,5 @@ pub shape_of-out : goal.shape_of-out
 shape_of-out c = c.loop-k.invariant.left.kept
 
 pub returns : goal.returns
-returns c = (lining_ends c.requires c.loop-k.invariant (omega arith), omega (arith, c.loop-k.invariant.room))
+returns c =
+    record { puts = lining_ends c.requires c.loop-k.invariant (omega arith); upper_bound = omega (arith, c.loop-k.invariant.room) }
