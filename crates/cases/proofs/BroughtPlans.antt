@@ -37,7 +37,7 @@ replies_on xs places sums b s [] h = tt
 replies_on xs places sums b s (r ∷ rs) h = λ got p.
     let same : report_in (length xs) places sums s r.side r.number ≡ report_on xs s r.side r.number = rw (b.room, b.plan) in
     let next = p.session ∙ ap (session_after s) same in
-    (p.reply ∙ ap reply_to same ∙ h.0, subst (λ t. Replies (length xs) places sums t rs) (sym next) (replies_on xs places sums b _ rs h.1))
+    (p.reply ∙ ap reply_to same ∙ h.0, subst (λ t. Replies (length xs) places sums t rs) (sym next) (replies_on xs places sums b (session_after s (report_on xs s r.side r.number)) rs h.1))
 
 module _ (bytes : List ℕ) (k : Contract) (read : parse bytes ≡ ok k) (xs : List State) where
   rising : Rising (deal_by k no_order)

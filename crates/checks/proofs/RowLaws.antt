@@ -92,7 +92,7 @@ module _ (s : Sides) (us cs vs : List ℕ) (n : ℕ) (places sums : List ℕ) wh
 
   -- the start is safe, the first i entries are steps, and the row and the payment stand after them
   pub record Passed (row paid i : ℕ) : Type 0 where
-    pub start_safe_lem : Safe d 0 0
+    pub start_safe : Safe d 0 0
     pub within : i ≤ n
     pub at : row < length cs
     pub steps : Steps d start (plan_in i places sums)
@@ -143,7 +143,7 @@ module _ (s : Sides) (us cs vs : List ℕ) (n : ℕ) (places sums : List ℕ) wh
     pub passed_start : Safe d 0 0 → Passed 0 0 0
     passed_start safe =
         record {
-          start_safe_lem = safe;
+          start_safe = safe;
           within = omega arith;
           at = some_rows;
           steps = rw (plan_none places sums) tt;
@@ -192,7 +192,7 @@ module _ (s : Sides) (us cs vs : List ℕ) (n : ℕ) (places sums : List ℕ) wh
             -- the test of the step
             tested : (r ≡ true) ↔ Step d (record { place = row; paid = paid }) (record { place = next; paid = sum })
             tested =
-                let q = step↔ d rising g.start_safe_lem (record { place = row; paid = paid }) (record { place = next; paid = sum }) (omega (arith, costs_rows s us cs vs b.valid)) in
+                let q = step↔ d rising g.start_safe (record { place = row; paid = paid }) (record { place = next; paid = sum }) (omega (arith, costs_rows s us cs vs b.valid)) in
                 let f : r ≡ step_test (holds_row us row next) (bounds_at d row) (bounds_at d next) paid sum s.price =
                 e ∙ rw (row_bounds_are s us cs vs b.valid row, row_bounds_are s us cs vs b.valid next) in
                 (λ y. q.0 (sym f ∙ y), λ y. f ∙ q.1 y)
@@ -206,7 +206,7 @@ module _ (s : Sides) (us cs vs : List ℕ) (n : ℕ) (places sums : List ℕ) wh
                 let hs : i < length (entries 4 sums) = omega (arith, sums_hold) in
                 rw (add-one i)
                 (record {
-                  start_safe_lem = g.start_safe_lem;
+                  start_safe = g.start_safe;
                   within = h;
                   at = next_within;
                   steps = plan_next places sums i hp hs (Step d) start g.steps (rw (g.state_is, entry) (tested.0 (not-false r y)));

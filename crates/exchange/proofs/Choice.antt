@@ -68,4 +68,4 @@ module _ (p : Sides) (units costs values : List ℕ) where
 
   pub unsafe_plans : (τ : List ℕ) → Order units τ → (Safe (in_order p costs values τ) 0 0 → ⊥)
       → (σ : List ℕ) → Order units σ → (xs : List State) → Plan (in_order p costs values σ) xs → ⊥
-  unsafe_plans τ q n σ o xs h = n (same_start p units costs values σ τ o q (plan_possible σ xs h).start_safe_lem)
+  unsafe_plans τ q n σ o xs h = n (same_start p units costs values σ τ o q (plan_possible σ xs h).start_safe)

@@ -193,14 +193,14 @@ possible_same t r =
     let safe = (clipped_same t leb).safe 0 0 in (
       λ h.
           record {
-            start_safe_lem = safe.0 h.start_safe_lem;
+            start_safe = safe.0 h.start_safe;
             no_gap = λ i l. ((≤-min _ _ _).0 ((max_≤ _ (pos 0) _).0 (h.no_gap i l)).0).0;
           },
       λ h.
           record {
-            start_safe_lem = safe.1 h.start_safe_lem;
+            start_safe = safe.1 h.start_safe;
             no_gap = λ i l.
-                let from = ≤_trans (safe_within (line t) r 0 0 (safe.1 h.start_safe_lem)).high (r.upper_rises 0 i (omega arith) (omega arith) (r.holds_start i)) in
+                let from = ≤_trans (safe_within (line t) r 0 0 (safe.1 h.start_safe)).high (r.upper_rises 0 i (omega arith) (omega arith) (r.holds_start i)) in
                 let to = ≤_trans (r.lower_rises (suc i) t.last l (omega arith) (le→leb (suc i) t.last l)) (safe_within (line t) r _ _ r.end_safe).low in
                 (≤-min _ _ _).1 ((max_≤ _ (pos 0) _).1 (h.no_gap i l, ((≤-min _ _ _).0 from).0), to);
           },

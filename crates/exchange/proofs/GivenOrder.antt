@@ -84,7 +84,7 @@ module _ (d : Deal) (r : Rising d) (counts : (a b : ℕ) → d.holds a b ≡ leb
 
   -- within twice the last place and one steps the rule is at the end, and stays there
   pub ruled_arrives : Possible d → (k : ℕ) → 2 * d.last + 1 ≤ k → ends start (ruled d start k) ≡ end d
-  ruled_arrives p k h = rw (ruled_run d start k) (arrives_within on_line (to_work p) start (stands p.start_safe_lem) k (omega arith))
+  ruled_arrives p k h = rw (ruled_run d start k) (arrives_within on_line (to_work p) start (stands p.start_safe) k (omega arith))
 
   -- so there is a first time
   pub arrival : Possible d → (n : ℕ) × Arrives d start n
@@ -96,7 +96,7 @@ module _ (d : Deal) (r : Rising d) (counts : (a b : ℕ) → d.holds a b ≡ leb
   of_work : Safe d 0 0 → NoGap (work_of d) → Possible d
   of_work h n =
       record {
-        start_safe_lem = h;
+        start_safe = h;
         no_gap = λ i k.
             let c = n i k in
             let u : pos 0 ≤ℤ d.upper i = ≤_trans (safe_within d r 0 0 h).high (r.upper_rises 0 i (omega arith) (omega arith) (r.holds_start i)) in
@@ -109,7 +109,7 @@ module _ (d : Deal) (r : Rising d) (counts : (a b : ℕ) → d.holds a b ≡ leb
     λ x.
         let q = (bridge d r x.0).0 x.1 in
         of_work q.0 (λ i h. crossed on_line i h start x.0 (omega arith) q.1.steps q.1.arrives),
-    λ p. let a = arrival p in (ruled d start a.0, ruled_plan p.start_safe_lem a.0 a.1.there),
+    λ p. let a = arrival p in (ruled d start a.0, ruled_plan p.start_safe a.0 a.1.there),
   )
 
   -- "at most 2U + 1 steps"

@@ -84,7 +84,7 @@ module _ (d : Deal) (r : Rising d) (counts : (a b : ℕ) → d.holds a b ≡ leb
 
   -- the lower bound of place 0 is covered by nothing paid
   low : (work_of d).floor 0 ≤ 0
-  low = start_covered d r p.start_safe_lem
+  low = start_covered d r p.start_safe
 
   -- ---- a first step to f, and then the rule
 
@@ -127,7 +127,7 @@ module _ (d : Deal) (r : Rising d) (counts : (a b : ℕ) → d.holds a b ≡ leb
             arrives = opening_ends f _ ∙ v.arrives.there;
           } in
           record {
-            plan = rw v.steps_are ((bridge d r _).1 (p.start_safe_lem, plan));
+            plan = rw v.steps_are ((bridge d r _).1 (p.start_safe, plan));
             short = omega (arith, is_length, s.short (to_work d r counts p) v.ruled_steps is_first);
             least = λ ys q. least ys ((bridge d r ys).0 q).1;
           }
@@ -238,8 +238,8 @@ module _ (d : Deal) (r : Rising d) (counts : (a b : ℕ) → d.holds a b ≡ leb
       let e = steps_ruled d xs v in
       let a = steps_arrive d xs v in
       record {
-        plan = rw e (ruled_plan d r counts p.start_safe_lem n a.there);
-        short = ruled_short d r counts p.start_safe_lem n a;
+        plan = rw e (ruled_plan d r counts p.start_safe n a.there);
+        short = ruled_short d r counts p.start_safe n a;
         least = λ ys q. rw (count_steps start xs, count_steps start ys) (ruled_least d r counts n a ys q);
       }
 

@@ -23,15 +23,15 @@ use Rattle.exchange.proofs.Bridge.{safe_start↔, within_safe, safe_within}
 
 -- whether the start is safe
 abbrev pub start_safe : Deal → Bool
-start_safe d = le_z d.least_price_lem (pos d.price) && le_z (pos d.price) d.most_price_lem
+start_safe d = le_z d.least_price (pos d.price) && le_z (pos d.price) d.most_price
 
 pub start_safe↔ : (d : Deal) → (start_safe d ≡ true) ↔ Safe d 0 0
 start_safe↔ d =
     Iff.trans (
       λ e.
-          let both = (and-eq-true_iff (le_z d.least_price_lem _) _).0 e in
+          let both = (and-eq-true_iff (le_z d.least_price _) _).0 e in
           record { least = (le_z_true _ _).0 both.0; most = (le_z_true _ _).0 both.1 },
-      λ s. rw ((le_z_true d.least_price_lem _).1 s.least) ((le_z_true _ _).1 s.most),
+      λ s. rw ((le_z_true d.least_price _).1 s.least) ((le_z_true _ _).1 s.most),
     ) (Iff.symm safe_start↔)
 
 -- by the amounts of the first and the last place
@@ -64,12 +64,12 @@ within_test↔ p at P = (
   λ h. rw ((le_z_true _ _).1 h.0, (le_z_true _ _).1 h.1, le-leb _ _ h.2),
 )
 
-module _ (d : Deal) (r : Rising d) (start_safe_lem : Safe d 0 0) where
+module _ (d : Deal) (r : Rising d) (start_safe : Safe d 0 0) where
   -- the test of a state, where the start is safe
   test↔ : (x p : ℕ) → (within_test p (bounds_at d x) d.price ≡ true) ↔ Safe d x p
   test↔ x p =
       let t = within_test↔ p (bounds_at d x) d.price in (
-        λ e. let w = t.0 e in within_safe (start_safe_lem.unmoved refl) (record { low = w.0; high = w.1; within = w.2 }),
+        λ e. let w = t.0 e in within_safe (start_safe.unmoved refl) (record { low = w.0; high = w.1; within = w.2 }),
         λ s. let w = safe_within d r x p s in t.1 (w.low, w.high, w.within),
       )
 
@@ -125,6 +125,6 @@ unfolding possible
 possible↔ d = (
   λ e.
       let f = (and-eq-true_iff (start_safe d) _).0 e in
-      record { start_safe_lem = (start_safe↔ d).0 f.0; no_gap = λ i h. (le_z_true _ _).0 ((all↔ _ d.last).0 f.1 i h) },
-  λ p. rw ((start_safe↔ d).1 p.start_safe_lem) ((all↔ _ d.last).1 (λ i h. (le_z_true _ _).1 (p.no_gap i h))),
+      record { start_safe = (start_safe↔ d).0 f.0; no_gap = λ i h. (le_z_true _ _).0 ((all↔ _ d.last).0 f.1 i h) },
+  λ p. rw ((start_safe↔ d).1 p.start_safe) ((all↔ _ d.last).1 (λ i h. (le_z_true _ _).1 (p.no_gap i h))),
 )

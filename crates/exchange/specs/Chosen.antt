@@ -56,7 +56,7 @@ module _ (d : Deal) (units costs values : List ℕ) where
     pub firsts : List ℕ
     pub others : List ℕ
     pub joined : items ≡ firsts ++ reverse others
-    pub each_once_lem : (j : ℕ) → j < length units → occurs j items ≡ 1
+    pub each_once : (j : ℕ) → j < length units → occurs j items ≡ 1
     pub forwards : AgainAndAgain (λ placed. Next (MayFollow placed) (λ j. at costs j - at values j)) [] firsts
     pub backwards : AgainAndAgain (λ placed. Next (MayPrecede placed) (λ j. at values j - at costs j)) [] others
 

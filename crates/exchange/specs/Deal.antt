@@ -1,7 +1,7 @@
 -- Safe states, steps and plans of a deal, as the paper writes them; one deal for every form of contract.
 use Rattle.std.specs.Prelude.{◌≡◌, Bool, List, [], ◌∷◌, ℕ, zero, suc, ◌+◌, ◌≤◌, ◌<◌, T, ℤ, pos, ◌≤ℤ◌}
 use Rattle.exchange.specs.Bounds as bounds
-use Rattle.exchange.specs.Bounds.{Terms, least_price, most_price}
+use Rattle.exchange.specs.Bounds.{Terms}
 
 -- a deal: P, the last place, the bounds of each place, the least and the most price of a safe start, and whether place b holds at least
 -- the units of place a of every item
@@ -10,8 +10,8 @@ pub record Deal : Type 0 where
   pub last : ℕ
   pub upper : ℕ → ℤ
   pub lower : ℕ → ℤ
-  pub least_price_lem : ℤ
-  pub most_price_lem : ℤ
+  pub least_price : ℤ
+  pub most_price : ℤ
   pub holds : ℕ → ℕ → Bool
 
 -- the deal with these amounts by these upper and lower bounds
@@ -22,8 +22,8 @@ with_bounds upper lower t holds =
       last = t.last;
       upper = upper;
       lower = lower;
-      least_price_lem = least_price t;
-      most_price_lem = most_price t;
+      least_price = bounds.least_price t;
+      most_price = bounds.most_price t;
       holds = holds;
     }
 
@@ -48,8 +48,8 @@ pub record WithinBounds (d : Deal) (x p : ℕ) : Type 0 where
 
 -- W5: "P lies from vs(L) − vs(0) to vd(L) − vd(0), both ends included"
 pub record StartSafe (d : Deal) : Type 0 where
-  pub least : d.least_price_lem ≤ℤ pos d.price
-  pub most : pos d.price ≤ℤ d.most_price_lem
+  pub least : d.least_price ≤ℤ pos d.price
+  pub most : pos d.price ≤ℤ d.most_price
 
 -- W5: "The state (0, 0) is now safe if P lies from .. to .. Every other state is judged as before": "A state (place, paid) is safe if
 -- lower ≤ paid ≤ upper, with 0 ≤ paid ≤ P"

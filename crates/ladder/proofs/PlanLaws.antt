@@ -89,7 +89,7 @@ module _ (l : Ladder) (s : List ℕ) (p : Lies l s) (cf : l.all.cost < 2 ^ 32) (
 
   -- the price covers the whole cost
   pub covered : Possible (line_in l s) → l.all.cost ≤ l.sides.price
-  covered q = deals.covered l.sides (ones_in l) (costs_in l s) (values_in l s) l.all (known l s p cf vf) q.start_safe_lem
+  covered q = deals.covered l.sides (ones_in l) (costs_in l s) (values_in l s) l.all (known l s p cf vf) q.start_safe
 
   -- ---- a delivery
 

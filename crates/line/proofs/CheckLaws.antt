@@ -93,7 +93,7 @@ module _ (s : Sides) (t : Totals) (cost value p q : ℕ) (a b : Bounds) (low : b
 module _ (s : Sides) (us cs vs : List ℕ) (n : ℕ) (places sums : List ℕ) where
   -- the start is safe, the first i entries are steps, and the cursor and the payment stand after them
   pub record Passed (c : Cursor) (paid i : ℕ) : Type 0 where
-    pub start_safe_lem : Safe (deal_along s us cs vs) 0 0
+    pub start_safe : Safe (deal_along s us cs vs) 0 0
     pub within : i ≤ n
     pub at : At us cs vs c
     pub steps : Steps (deal_along s us cs vs) start (plan_in i places sums)
@@ -112,7 +112,7 @@ module _ (s : Sides) (us cs vs : List ℕ) (n : ℕ) (places sums : List ℕ) wh
     passed_start r e h c o =
         rw o
         (record {
-          start_safe_lem = started s us cs vs t b.known r e h;
+          start_safe = started s us cs vs t b.known r e h;
           within = omega arith;
           at = at_origin us cs vs b.known.fit;
           steps = rw (plan_none places sums) tt;
@@ -174,7 +174,7 @@ module _ (s : Sides) (us cs vs : List ℕ) (n : ℕ) (places sums : List ℕ) wh
             tested : (r ≡ true) ↔ Step (deal_along s us cs vs) (record { place = c.place; paid = paid }) (record { place = place; paid = sum })
             tested =
                 let d = deal_along s us cs vs in
-                let q = step↔ d (rising s us cs vs) g.start_safe_lem (record { place = c.place; paid = paid }) (record { place = place; paid = sum }) (omega (arith, b.known.units_are)) in
+                let q = step↔ d (rising s us cs vs) g.start_safe (record { place = c.place; paid = paid }) (record { place = place; paid = sum }) (omega (arith, b.known.units_are)) in
                 let f : r ≡ step_test (d.holds c.place place) (bounds_at d c.place) (bounds_at d place) paid sum s.price =
                 e
                 ∙ passes_step s t c.cost to.value paid sum (cursor_bounds s t c) (cursor_bounds s t to) refl refl
@@ -192,7 +192,7 @@ module _ (s : Sides) (us cs vs : List ℕ) (n : ℕ) (places sums : List ℕ) wh
                 let hs : i < length (entries 4 sums) = omega (arith, b.sums_hold) in
                 rw (add-one i)
                 (record {
-                  start_safe_lem = g.start_safe_lem;
+                  start_safe = g.start_safe;
                   within = h;
                   at = a.at;
                   steps = plan_next places sums i hp hs (Step d) start g.steps (rw (g.state_is, entry) (tested.0 (not-false r y)));

@@ -108,7 +108,7 @@ module _ (s : Sides) (us cs vs : List ℕ) where
   pub all : Safe (deal_along s us cs vs) 0 0 → ((i : ℕ) → i < length (spread us cs) → Joined i) → Decides (deal_along s us cs vs) true
   all h g =
       record {
-        yes = λ _. (possible_same terms rising).1 (record { start_safe_lem = ((clipped_same terms leb).safe 0 0).0 h; no_gap = g });
+        yes = λ _. (possible_same terms rising).1 (record { start_safe = ((clipped_same terms leb).safe 0 0).0 h; no_gap = g });
         no = λ e. absurd (subst T e tt);
       }
 
@@ -149,7 +149,7 @@ module _ (s : Sides) (us cs vs : List ℕ) where
     -- ---- the scan for a gap
 
     pub start_unsafe : (b : Bool) → b ≡ start_test s.price t.cost 0 t.value 0 → not b ≡ true → Decides (deal_along s us cs vs) false
-    start_unsafe b e h = none (λ p. not_started b e h p.start_safe_lem)
+    start_unsafe b e h = none (λ p. not_started b e h p.start_safe)
 
     pub clear_start : Safe (deal_along s us cs vs) 0 0 → (c : Cursor) → c ≡ origin → Clear c
     clear_start safe c o =

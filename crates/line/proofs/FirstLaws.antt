@@ -134,8 +134,8 @@ module _ (d : Deal) (r : Rising d) (counts : (a b : ℕ) → d.holds a b ≡ leb
   start_begins =
       rw (opening_start [])
       (record {
-        step = start_step (on_line d r counts) (start_covered d r p.start_safe_lem);
-        short = λ n a. omega (arith, ruled_short d r counts p.start_safe_lem n a);
+        step = start_step (on_line d r counts) (start_covered d r p.start_safe);
+        short = λ n a. omega (arith, ruled_short d r counts p.start_safe n a);
       })
 
   pub delivery_begins : Begins d (delivery_only d) (length (opening (delivery_only d) []))

@@ -67,7 +67,7 @@ module _ (s : Sides) (us cs vs : List ℕ) where
 
     -- nothing is delivered yet, and nothing need be paid there
     pub origin_reached : (c : Cursor) → c ≡ origin → Reached s us cs vs 0 c
-    origin_reached c o = record { at = at_first c o; low = rw (first_place c o) (safe_within _ (rising s us cs vs) 0 0 q.start_safe_lem).low }
+    origin_reached c o = record { at = at_first c o; low = rw (first_place c o) (safe_within _ (rising s us cs vs) 0 0 q.start_safe).low }
 
     pub leads_none : (r : First) → r ≡ at_start → Leads s us cs vs start r
     leads_none r e =

@@ -149,7 +149,7 @@ module _ (s : Sides) (us cs vs : List ℕ) where
       along_low =
           let d = deal_along s us cs vs in
           let o = on_line s us cs vs in
-          let first : Stands (work_of d) f = step_stands o (start_covered d (rising s us cs vs) p.start_safe_lem) f begins.step in
+          let first : Stands (work_of d) f = step_stands o (start_covered d (rising s us cs vs) p.start_safe) f begins.step in
           let stands : Stands (work_of d) (state_at d f n) = rw (ruled_run d f n) (run_keeps (greedy_leads o) f first n) in
           let here = rw g.state_is at stands in
           record { at = g.at; low = (coins_low _ paid).1 here.covered }

@@ -204,9 +204,9 @@ module _ {h : Header} {us cost_map cs value_map vs : List ℕ} (m : Mapped h us 
         within = m.table.within;
         costs_rise = l.costs_rising ∙ m.costs_rise;
         values_rise = l.values_rising ∙ m.values_rise;
-        bytes_are = rw (grid_is us cs cost_map m.cost_map_lem, grid_is us vs value_map m.value_map_lem) l.bytes_are;
+        bytes_are = rw (grid_is us cs cost_map m.cost_map_is, grid_is us vs value_map m.value_map_is) l.bytes_are;
       }
 
   pub table_length : length (table_bytes h us cost_map cs value_map vs)
       ≡ length (head_bytes h) + length us + (length cost_map + 4 * bit_count cost_map) + (length value_map + 4 * bit_count value_map)
-  table_length = simp (length-append, digits_all_length, grid_size us cs cost_map m.cost_map_lem, grid_size us vs value_map m.value_map_lem) (omega arith)
+  table_length = simp (length-append, digits_all_length, grid_size us cs cost_map m.cost_map_is, grid_size us vs value_map m.value_map_is) (omega arith)

@@ -122,7 +122,7 @@ module _ (p : Sides) (units costs values items : List ℕ) where
             firsts = f;
             others = b;
             joined = same;
-            each_once_lem = once;
+            each_once = once;
             forwards =
                 again_so _ _ f (λ done rest j s r. (next_first p units costs values items f b same once f done rest j s refl).0 r) [] f refl
                 (placed_found (front p units costs values) (length units));
@@ -145,7 +145,7 @@ module _ (p : Sides) (units costs values items : List ℕ) where
     is_other x h = let (b, m) = again_some _ [] c.others c.backwards x h in (m.may.item, m.may.other)
 
     pub chosen_all : length items ≡ length units
-    chosen_all = sym (tally_length (length units) items below) ∙ tally_once items (length units) c.each_once_lem
+    chosen_all = sym (tally_length (length units) items below) ∙ tally_once items (length units) c.each_once
       where
         below : (x : ℕ) → 0 < occurs x items → x < length units
         below x h =
@@ -162,20 +162,20 @@ module _ (p : Sides) (units costs values items : List ℕ) where
     firsts_placed =
         placed_is (front p units costs values) c.firsts (omega (arith, parts))
         (again_so _ _ c.firsts
-        (λ done rest j s r. (next_first p units costs values items c.firsts c.others c.joined c.each_once_lem c.firsts done rest j s refl).1 r)
+        (λ done rest j s r. (next_first p units costs values items c.firsts c.others c.joined c.each_once c.firsts done rest j s refl).1 r)
         [] c.firsts refl c.forwards)
         (λ x h t.
-        let i = is_other x (omega (arith, occurs_both x, c.each_once_lem x h, t.new)) in
+        let i = is_other x (omega (arith, occurs_both x, c.each_once x h, t.new)) in
         omega (arith, i.1, leb-true (at values x) (at costs x) t.mine))
 
     others_placed : placed (back p units costs values) (length units) ≡ c.others
     others_placed =
         placed_is (back p units costs values) c.others (omega (arith, parts))
         (again_so _ _ c.others
-        (λ done rest j s r. (next_last p units costs values items c.firsts c.others c.joined c.each_once_lem c.others done rest j s refl).1 r)
+        (λ done rest j s r. (next_last p units costs values items c.firsts c.others c.joined c.each_once c.others done rest j s refl).1 r)
         [] c.others refl c.backwards)
         (λ x h t.
-        let i = is_first x (omega (arith, occurs_both x, c.each_once_lem x h, t.new)) in
+        let i = is_first x (omega (arith, occurs_both x, c.each_once x h, t.new)) in
         omega (arith, i.1, leb-false (at values x) (at costs x) (not-true _ t.mine)))
 
     pub chosen_both : both_ends p units costs values ≡ items

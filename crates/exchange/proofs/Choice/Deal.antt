@@ -61,7 +61,7 @@ module _ (p : Sides) (units costs values : List ℕ) where
     fits_possible s f =
         same.1
         (record {
-          start_safe_lem = ((clipped_same (order_terms p costs values σ) leb).safe 0 0).0 s;
+          start_safe = ((clipped_same (order_terms p costs values σ) leb).safe 0 0).0 s;
           no_gap = λ i l.
               (gap↔ _ _ _ _ _ _ _).1
               (omega (arith, allowed_places (at values) (at costs) σ _ _ f i l, last_is units (at values) σ o, last_is units (at costs) σ o));

@@ -92,8 +92,8 @@ grid_with map cells = map ++ flat_map (digits 4) (standing_cells map cells (leng
 -- a table whose cells rise, with the maps of its costs and of its values
 pub record Mapped (h : Header) (us cost_map cs value_map vs : List ℕ) : Type 0 where
   pub table : Tabled h us cs vs
-  pub cost_map_lem : cost_map ≡ row_map us cs (length cs) (map_size (length cs))
-  pub value_map_lem : value_map ≡ row_map us vs (length vs) (map_size (length vs))
+  pub cost_map_is : cost_map ≡ row_map us cs (length cs) (map_size (length cs))
+  pub value_map_is : value_map ≡ row_map us vs (length vs) (map_size (length vs))
   pub costs_rise : rising us cs (length cs) ≡ true
   pub values_rise : rising us vs (length vs) ≡ true
 

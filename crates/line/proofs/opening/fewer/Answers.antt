@@ -6,7 +6,7 @@ use Rattle.line.proofs.opening.fewer.Goals as goal
 
 pub payment_only-one-requires : goal.payment_only-one-requires
 payment_only-one-requires c =
-    covered c.args.sides _ _ _ _ c.requires.0 c.requires.1.start_safe_lem
+    covered c.args.sides _ _ _ _ c.requires.0 c.requires.1.start_safe
 
 pub steps-m-requires : goal.steps-m-requires
 steps-m-requires c = (c.requires.0, c.requires.1, leads_own c.args.sides c.args.units.now c.args.costs.now c.args.values.now (leads_payment c.args.sides c.args.units.now c.args.costs.now c.args.values.now c.args.t c.requires.0 c.requires.1 _ c.payment_only-one.ensures))

@@ -6,7 +6,7 @@ use Rattle.line.proofs.opening.first_for.Goals as goal
 
 pub payment_only-requires : goal.payment_only-requires
 payment_only-requires c =
-    covered c.args.sides _ _ _ _ c.requires.0 c.requires.1.start_safe_lem
+    covered c.args.sides _ _ _ _ c.requires.0 c.requires.1.start_safe
 
 pub returns-in-Steps : goal.returns-in-Steps
 returns-in-Steps c = chosen_for c.args.sides c.args.units.now c.args.costs.now c.args.values.now c.in-Steps.is (chosen c.args.sides c.args.units.now c.args.costs.now c.args.values.now Objective.Steps _ _ (leads_none c.args.sides c.args.units.now c.args.costs.now c.args.values.now c.args.t c.requires.0 c.requires.1 _ c.none.ensures) (λ xs o. o))

@@ -23,7 +23,7 @@ returns-then-arrived c = record { arrives = along_arrives c.args.sides c.args.un
 
 pub pay-sum-requires : goal.pay-sum-requires
 pay-sum-requires c =
-    covered c.args.sides _ _ _ _ c.requires.0 c.requires.1.start_safe_lem
+    covered c.args.sides _ _ _ _ c.requires.0 c.requires.1.start_safe
 
 pub deliver-to-requires : goal.deliver-to-requires
 deliver-to-requires c = (c.requires.0, along_low c.args.sides c.args.units.now c.args.costs.now c.args.values.now c.args.t c.requires.0 c.loop-sides.invariant.along c.requires.1 c.requires.2.begins)

@@ -7,12 +7,12 @@ use Rattle.record.proofs.writer.write_grids.Goals as goal
 pub grid_len-requires : goal.grid_len-requires
 grid_len-requires c =
     let m = c.requires in
-    omega (arith, map_size_lem _ _ _ m.cost_map_lem, laid m.table)
+    omega (arith, map_size_lem _ _ _ m.cost_map_is, laid m.table)
 
 pub grid_len-requires-2 : goal.grid_len-requires-2
 grid_len-requires-2 c =
     let m = c.requires in
-    omega (arith, map_size_lem _ _ _ m.value_map_lem, laid m.table)
+    omega (arith, map_size_lem _ _ _ m.value_map_is, laid m.table)
 
 pub returns-then-out-n : goal.returns-then-out-n
 returns-then-out-n c =
@@ -22,12 +22,12 @@ returns-then-out-n c =
 pub put_grid-k-requires : goal.put_grid-k-requires
 put_grid-k-requires c =
     let m = c.requires in
-    omega (arith, digits_all_length 1 c.args.units.now, grid_size _ _ _ m.cost_map_lem)
+    omega (arith, digits_all_length 1 c.args.units.now, grid_size _ _ _ m.cost_map_is)
 
 pub put_grid-requires : goal.put_grid-requires
 put_grid-requires c =
     let m = c.requires in
-    omega (arith, digits_all_length 1 c.args.units.now, grid_size _ _ _ m.cost_map_lem, grid_size _ _ _ m.value_map_lem)
+    omega (arith, digits_all_length 1 c.args.units.now, grid_size _ _ _ m.cost_map_is, grid_size _ _ _ m.value_map_is)
 
 pub returns : goal.returns
 returns c =

@@ -38,8 +38,8 @@ write_grids-requires c =
     let t = c.requires in
     record {
       table = t;
-      cost_map_lem = map_front t _ refl c.mark-cost_marks.ensures.1;
-      value_map_lem = map_front t _ (laid t).same c.mark-value_marks.ensures.1;
+      cost_map_is = map_front t _ refl c.mark-cost_marks.ensures.1;
+      value_map_is = map_front t _ (laid t).same c.mark-value_marks.ensures.1;
       costs_rise = sym c.mark-cost_marks.ensures.0 ∙ not-false _ c.if-not-cost_marks.false;
       values_rise = sym c.mark-value_marks.ensures.0 ∙ not-false _ c.if-not-value_marks.false;
     }
