@@ -1,7 +1,7 @@
 #!/usr/bin/env bash
 # The C library as a C program meets it: the header in C and C++, an installation, the program in README.md and the example desk
 # built from it, and hostile calls under valgrind.
-# Needs target/staticlib/libyolkgorge.a (`rt staticlib yolkgorge`).
+# Needs target/staticlib/libyolkgorge.a (`make`).
 set -Eeuo pipefail
 cd "$(dirname "$0")/.."
 work=$(mktemp -d)

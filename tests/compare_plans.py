@@ -3,7 +3,7 @@ byte of every area, every session.
 
 usage: python3 tests/compare_plans.py [--seed N] [--scale N]
 
-Needs target/staticlib/libyolkgorge.a (`rt staticlib yolkgorge`). Ends with status 1 and an explanation at the first difference,
+Needs target/staticlib/libyolkgorge.a (`make`). Ends with status 1 and an explanation at the first difference,
 or where some answer never came up.
 """
 import argparse

@@ -5,7 +5,7 @@ orders of the items ours alone is the one that the paper chooses, for a table th
 
 usage: python3 tests/compare_small.py [--seed N] [--deals N] [--sparing-deals N]
 
-Needs target/staticlib/libyolkgorge.a (`rt staticlib yolkgorge`). Ends with status 1 and an explanation at the first fault, or
+Needs target/staticlib/libyolkgorge.a (`make`). Ends with status 1 and an explanation at the first fault, or
 where some kind of deal came up too rarely.
 """
 import argparse

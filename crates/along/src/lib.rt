@@ -1,4 +1,6 @@
 // Plans a record along one order of its units, for an objective: a ladder, or the chosen order of unit prices. No work area is needed.
+#![tactic(auto)]
+
 ghost use Rattle.std.specs.Prelude.{◌≡◌, ◌<◌};
 ghost use Rattle.contract.specs.Contract.{contract_of};
 ghost use Rattle.contract.specs.Valid.{Valid};

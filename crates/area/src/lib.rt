@@ -1,5 +1,7 @@
 // Little-endian numbers in byte areas. A remainder too short for an entry counts as none and stays.
 // What lies past the end reads 0, and a store there changes nothing: only `known` asks for an entry that there is.
+#![tactic(auto)]
+
 ghost use Rattle.std.specs.Prelude.{◌≡◌, ◌<◌, length, get_or, replicate};
 ghost use Rattle.area.specs.Entries.{num_at, put_at, entries, Stored, Cleared};
 

@@ -1,4 +1,6 @@
 // Answers the bounds of a place of a contract record.
+#![tactic(auto)]
+
 ghost use Rattle.std.specs.Prelude.{◌≡◌, ◌-◌, length, get_or};
 ghost use Rattle.planning.specs.Answer.{bounded_of};
 ghost use Rattle.planning.specs.Bounds.{bounds_of};

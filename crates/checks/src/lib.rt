@@ -1,4 +1,6 @@
 // Checks a brought plan of a contract record.
+#![tactic(auto)]
+
 ghost use Rattle.exchange.specs.PlanIn.{plan_in};
 ghost use Rattle.planning.specs.Answer.{checked_of};
 ghost use Rattle.planning.specs.Check.{ahead_of_check, Checks};

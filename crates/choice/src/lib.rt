@@ -1,4 +1,6 @@
 // Chooses the order of the items for unit prices.
+#![tactic(auto)]
+
 ghost use Rattle.std.specs.Prelude.{◌≡◌, List, [], ◌++◌, reverse, ℕ, ◌+◌, ◌*◌, ◌^◌, ◌≤◌, ◌<◌, length};
 ghost use Rattle.exchange.specs.Chosen.{at};
 ghost use Rattle.exchange.specs.Choice.{sum_over, all_items, best, placed};

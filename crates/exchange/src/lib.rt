@@ -1,4 +1,6 @@
 // The numbers of a deal, the answers of planning, the bounds of a place, and the test of the start.
+#![tactic(auto)]
+
 ghost use Rattle.std.specs.Prelude.{◌≡◌, min, ◌<◌, ◌≤◌, ◌^◌};
 ghost use Rattle.std.proofs.Math.IntN.{sub_ℕ};
 ghost use Rattle.exchange.specs.Bounds.{unclipped_upper_of, unclipped_lower_of, upper_of, lower_of};

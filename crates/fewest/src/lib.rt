@@ -1,4 +1,6 @@
 // Plans the deal of a contract record along one order for an objective: fewest payments, fewest deliveries or fewest moves.
+#![tactic(auto)]
+
 ghost use Rattle.contract.specs.declared.Form.TheVariants.{Table};
 ghost use Rattle.record.specs.Find.{HeadFound};
 ghost use Rattle.planning.specs.Answer.{answer_of};

@@ -1,4 +1,6 @@
 // The rows of a table: how many there are, blank cells, and row maps.
+#![tactic(auto)]
+
 ghost use Rattle.std.specs.Prelude.{◌≡◌, cond, ◌&&◌, ◌<◌, ◌+◌, ◌^◌, leb, length, get_or};
 ghost use Rattle.area.specs.Entries.{entries};
 ghost use Rattle.grid.specs.Rows.{rows_of, rising};

@@ -1,4 +1,6 @@
 // The rows that a row holds: compared, and gone through from the row down.
+#![tactic(auto)]
+
 mod down;
 mod words;
 

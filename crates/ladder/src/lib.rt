@@ -1,4 +1,6 @@
 // Plans, checks and bounds a ladder as it stands in its record, unit by unit: nothing is copied, and the totals come from the reader.
+#![tactic(auto)]
+
 ghost use Rattle.std.specs.Prelude.{◌≡◌, true, ◌≤◌, length};
 ghost use Rattle.area.specs.Entries.{entries};
 ghost use Rattle.exchange.specs.PlanIn.{plan_in};

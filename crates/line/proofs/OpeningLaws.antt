@@ -1,12 +1,11 @@
 -- The first step of the plan for each aim, found along the segments. Assumes nothing.
-use mathlib.Core.Path.{◌≡◌, refl, sym, ap, ◌∙◌, subst}
+use mathlib.Core.Path.{◌≡◌, refl, sym, ap, subst}
 use mathlib.Core.List.{List, []}
 use Prim.Native.Nat.{ℕ, ◌+◌, ◌≤◌, ◌<◌, ◌^◌, min}
 use native.Mathlib.Omega.{arith}
 use lib.ListN.{length}
 use Rattle.area.proofs.FilledLaws.{entries_same}
 use Rattle.exchange.specs.Arrival.{Arrives}
-use Rattle.exchange.specs.Bounds.{upper_of}
 use Rattle.exchange.specs.Deal.{State, start}
 use Rattle.exchange.specs.Possible.{Possible}
 use Rattle.exchange.specs.Rule.{coins, rule}

@@ -1,4 +1,6 @@
 // Plans a deal along one order, given as segments: runs of units with one cost and one value.
+#![tactic(auto)]
+
 ghost use Rattle.std.specs.Prelude.{◌≡◌, ◌&&◌, [], ◌+◌, ◌-◌, min, ◌≤◌, ◌<◌, ◌^◌, eqb, pos, length};
 ghost use Rattle.std.specs.Int.Signed.{le_z};
 ghost use Rattle.area.specs.Entries.{entries};

@@ -1,4 +1,6 @@
 // Order bytes: item numbers from 1, then zeros, eight in all.
+#![tactic(auto)]
+
 ghost use Rattle.std.specs.Prelude.{◌≡◌, ◌∷◌, ◌&&◌, leb, length, get_or};
 ghost use Rattle.exchange.specs.Forms.{occurs};
 ghost use Rattle.exchange.specs.Named.{each_once};

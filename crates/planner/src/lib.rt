@@ -1,4 +1,6 @@
 // Plans the deal of a contract record, answers the bounds of a place, and checks a brought plan.
+#![tactic(auto)]
+
 ghost use Rattle.std.specs.Prelude.{◌≡◌};
 ghost use Rattle.exchange.specs.PlanIn.{plan_in};
 ghost use Rattle.exchange.specs.declared.Objective.{Objective};

@@ -1,4 +1,6 @@
 // What planning a contract means: its deals, order bytes, areas, answers and promises.
+#![tactic(auto)]
+
 ghost use Rattle.std.specs.Prelude.{◌≡◌};
 ghost use Rattle.planning.specs.Found.{ladder_of};
 

@@ -1,4 +1,6 @@
 // Plans the deal of a contract record.
+#![tactic(auto)]
+
 ghost use Rattle.std.specs.Prelude.{◌≡◌};
 ghost use Rattle.planning.specs.Answer.{answer_of};
 ghost use Rattle.planning.specs.Areas.{areas};

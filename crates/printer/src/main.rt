@@ -1,4 +1,6 @@
 // The plan printer: reads one record from standard input, and prints why it is refused or the steps of its plan.
+#![tactic(auto)]
+
 ghost use Rattle.std.specs.Prelude.{◌≤◌, length};
 ghost use Rattle.area.specs.Puts.{Puts};
 ghost use Rattle.planning.specs.Answer.{answer_of};

@@ -25,7 +25,7 @@ use Rattle.contract.specs.declared.Refusal.{Refusal}
 use Rattle.contract.specs.declared.Refusal.TheVariants.{Short}
 use Rattle.contract.proofs.Lengths.{digits_all_length, bits_are, grid_length}
 use Rattle.area.specs.Puts.{Puts}
-use Rattle.record.specs.View.Write.{counted, items_in, contract_with, Counted, Shaped, Segmented, Tabled, head_bytes, Run, run_bytes, grid_with, Mapped, Replies}
+use Rattle.record.specs.View.Write.{items_in, contract_with, Counted, Shaped, Segmented, Tabled, head_bytes, Run, run_bytes, grid_with, Mapped, Replies}
 use Rattle.record.specs.declared.Written.{Written}
 use Rattle.record.proofs.PutLaws.{each_none, each_stated, run_length}
 use Rattle.record.proofs.CountLaws.{items_length}

@@ -1,5 +1,5 @@
 -- What reading and writing promise.
-use Rattle.std.specs.Prelude.{◌≡◌, List, [], ◌++◌, ℕ, length, drop, replicate}
+use Rattle.std.specs.Prelude.{◌≡◌, List, ◌++◌, ℕ, length, drop, replicate}
 use Rattle.contract.specs.Res.{Res, refused, ok}
 use Rattle.contract.specs.Contract.{Contract, number_of, header_of, contract_of}
 use Rattle.contract.specs.Parse.{parse}

@@ -1,4 +1,6 @@
 // Reads and writes contract records, and finds ladders in theirs.
+#![tactic(auto)]
+
 ghost use Rattle.std.specs.Prelude.{◌≡◌, length, ◌≤◌};
 ghost use Rattle.contract.specs.Parse.{reading};
 ghost use Rattle.record.specs.Find.{Finds};

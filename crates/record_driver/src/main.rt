@@ -9,6 +9,8 @@
 // answers for a case are
 //     the reply to reading (u16), the header and both areas; then for each writing
 //     the reply (u16), the length of the record that was written (u32) and the output area.
+#![tactic(auto)]
+
 ghost use Rattle.std.specs.Prelude.{◌≤◌, ◌<◌};
 
 use contract::{Form, Header, Refusal};

@@ -1,4 +1,6 @@
 // Plans a table with fewest steps over all orders.
+#![tactic(auto)]
+
 ghost use Rattle.std.specs.Prelude.{◌≡◌, cond, ◌+◌, ◌<◌, ◌≤◌, length};
 ghost use mathlib.Core.List.{foldr};
 ghost use Rattle.grid.specs.Rows.{rows_of};

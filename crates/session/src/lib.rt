@@ -1,4 +1,6 @@
 // A session: how far a plan is carried out. Each report takes the session and hands back the next.
+#![tactic(auto)]
+
 ghost use Rattle.std.specs.Prelude.{◌≡◌, ◌-◌};
 ghost use Rattle.exchange.specs.PlanIn.{plan_in};
 ghost use Rattle.planning.specs.Check.{holds_count, ahead_of_check};

@@ -1,4 +1,6 @@
 // Sizes of a contract's parts.
+#![tactic(auto)]
+
 ghost use Rattle.std.specs.Prelude.{◌≡◌, ◌<◌};
 ghost use Rattle.sizes.specs.Units.{units_few};
 

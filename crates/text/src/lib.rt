@@ -1,4 +1,6 @@
 // The text that answers a record, put into an area.
+#![tactic(auto)]
+
 ghost use Rattle.std.specs.Prelude.{[], ◌≤◌, length};
 ghost use Rattle.area.specs.Puts.{Puts};
 ghost use Rattle.contract.specs.Res.{refused, ok};

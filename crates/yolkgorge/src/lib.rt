@@ -1,4 +1,6 @@
 // The planner for C programs: numbers and byte areas, each entry one call of the planner or of a session.
+#![tactic(auto)]
+
 ghost use Rattle.std.specs.Prelude.{◌≡◌};
 ghost use Rattle.exchange.specs.PlanIn.{plan_in};
 ghost use Rattle.exchange.specs.declared.Objective.{Objective};

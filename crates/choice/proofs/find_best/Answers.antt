@@ -1,6 +1,5 @@
 -- `choice::find_best` meets its contract. The loop's invariant: i is the item to take of those below j. Assumes nothing.
 use mathlib.Core.Path.{◌≡◌, refl}
-use Prim.Native.Nat.{◌-◌}
 use native.Mathlib.Numerals.{add-one}
 use native.Mathlib.Omega.{arith}
 use lib.ListN.{length}

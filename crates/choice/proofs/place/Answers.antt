@@ -1,6 +1,5 @@
 -- `choice::place` meets its contract. The loop's invariant: what is held is what `count` choices place. Assumes nothing.
 use mathlib.Core.Path.{refl}
-use Prim.Native.Nat.{◌-◌}
 use Rattle.choice.proofs.PlaceLaws.{going_begin, all_turns, all_placed, going_some}
 use Rattle.choice.proofs.place.Goals as goal
 

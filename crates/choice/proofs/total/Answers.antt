@@ -1,6 +1,6 @@
 -- `choice::total` meets its contract. The loop's invariant: the sum over the items below j. Assumes nothing.
 use mathlib.Core.Path.{refl, ap, ◌∙◌}
-use Prim.Native.Nat.{ℕ, ◌-◌}
+use Prim.Native.Nat.{ℕ}
 use native.Mathlib.Omega.{arith}
 use Rattle.exchange.specs.Chosen.{at}
 use Rattle.exchange.specs.Choice.{sum_over, all_items}

@@ -1,7 +1,6 @@
 -- `ladder::check` meets its contract. The invariant: the entries before i are steps, and the rung stands after them. Assumes nothing.
 use mathlib.Core.Bool.{not}
 use mathlib.Core.Path.{ap}
-use Prim.Native.Nat.{◌-◌}
 use native.Mathlib.Omega.{arith}
 use Rattle.line.proofs.CheckLaws.{unsafe_start, passed_start, passed_next, passed_all, falls, above, refused}
 use Rattle.ladder.specs.Code.{cursor_of}

@@ -1,7 +1,6 @@
 -- `ladder::deliver` meets its contract. The invariant: the lower bound of the place reached is at most what is paid. Assumes nothing.
 use mathlib.Core.Bool.{not}
 use mathlib.Core.Path.{ap}
-use Prim.Native.Nat.{◌-◌}
 use native.Mathlib.Omega.{arith}
 use Rattle.ladder.proofs.RiseLaws.{value_next}
 use Rattle.ladder.proofs.PlanLaws.{delivers_all, delivers_here, reached_next, delivers_last}

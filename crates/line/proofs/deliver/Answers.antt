@@ -1,5 +1,4 @@
 -- `line::deliver` meets its contract. The invariant: the lower bound of the place reached is at most what is paid. Assumes nothing.
-use Prim.Native.Nat.{◌-◌}
 use native.Mathlib.Omega.{arith}
 use Rattle.line.proofs.SegmentLaws.{opened, in_units, few_before, value_fits}
 use Rattle.line.proofs.DealLaws.{some_units, low_sums, reached_on, stops_within, stops_here, stops_last}

@@ -1,7 +1,6 @@
 -- `line::possible` meets its contract. The invariant: the start is safe and no gap was found so far. Assumes nothing.
 use mathlib.Core.Bool.{not}
 use mathlib.Core.Path.{ap}
-use Prim.Native.Nat.{◌-◌}
 use native.Mathlib.Omega.{arith}
 use Rattle.line.proofs.SegmentLaws.{opened, in_units, few_before}
 use Rattle.line.proofs.DealLaws.{started, start_unsafe, clear_start, one_cost, one_value, gap_none, clear_next, clear_all}

@@ -1,6 +1,5 @@
 -- `order::first_eight` meets its contract. The invariant: the first i bytes are copied, and the others are zero. Assumes nothing.
 use mathlib.Core.Path.{◌≡◌, refl, ◌∙◌}
-use Prim.Native.Nat.{◌-◌}
 use native.Mathlib.Omega.{arith}
 use Rattle.order.proofs.FirstEight.{eight_turn, eight_end}
 use Rattle.order.proofs.first_eight.Goals as goal

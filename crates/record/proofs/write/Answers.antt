@@ -1,6 +1,6 @@
 use mathlib.Core.Path.{◌≡◌, sym, ◌∙◌}
 use Prim.Native.Nat.{◌≤◌}
-use lib.ListN.{length, length-map}
+use lib.ListN.{length}
 use lib.Seq.{length-take-le}
 use Rattle.contract.specs.declared.Refusal.TheVariants.{Range, Short}
 use Rattle.record.proofs.CountLaws.{InRange, in_range_lem, out_of_range, costs_short, values_short, items_few, cut, writes_cut}

@@ -1,5 +1,4 @@
 -- `record_driver::put_entries` is safe and ends: the measure is the number of entries that are left.
-use Prim.Native.Nat.{◌-◌}
 use Rattle.record_driver.proofs.put_entries.Goals as goal
 
 pub loop-i-init : goal.loop-i-init

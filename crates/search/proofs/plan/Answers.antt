@@ -1,14 +1,11 @@
 use mathlib.Core.Path.{◌≡◌, refl, sym, ◌∙◌}
 use mathlib.Core.Bool.{true}
-use mathlib.Core.List.{List}
-use Prim.Native.Nat.{ℕ}
 use native.Mathlib.Omega.{arith}
 use lib.ListN.{length}
-use Rattle.exchange.specs.Search.{most_steps}
 use Rattle.search.specs.declared.Terms.{Terms}
 use Rattle.search.specs.Promise.{suits}
 use Rattle.search.specs.Layers.{Fitted}
-use Rattle.search.proofs.SuitLaws.{Suits, unfit, fit, suits_yes}
+use Rattle.search.proofs.SuitLaws.{unfit, fit, suits_yes}
 use Rattle.search.proofs.PlanLaws.{fitted, no_start, no_count, planned_success}
 use Rattle.search.proofs.plan.Goals as goal
 

@@ -1,9 +1,7 @@
 -- `session::pass_over` meets its contract. The invariant: what is left to pass over comes to the same, and the plan stands where it stood.
 -- Assumes nothing.
 use mathlib.Core.Path.{refl, sym, ◌∙◌}
-use Prim.Native.Nat.{◌-◌}
 use native.Mathlib.Omega.{arith}
-use Rattle.session.specs.Session.{at_step}
 use Rattle.session.proofs.StepLaws.{place_moves, sum_moves, none_moves, still_stands}
 use Rattle.session.proofs.CodeLaws.{settle_stays, settle_end, settle_next}
 use Rattle.session.proofs.pass_over.Goals as goal

@@ -3,7 +3,6 @@ use native.Mathlib.Omega.{arith}
 use Rattle.area.proofs.PutLaws.{puts_then, puts_length}
 use Rattle.text.specs.Text.{text}
 use Rattle.text.proofs.Fields.{decimal_short}
-use borrow.Author.Rules.{rules}
 use Rattle.text.proofs.put_plan.Goals as goal
 
 pub put_number-at-requires : goal.put_number-at-requires

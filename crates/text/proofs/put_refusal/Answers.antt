@@ -18,5 +18,5 @@ returns c =
     record {
       puts = puts_then c.put_bytes-at.ensures c.put_number.ensures.puts;
       upper_bound =
-        omega (arith, f, c.requires, c.put_bytes-at.ensures.next, c.put_number.ensures.value, puts_length c.put_bytes-at.ensures, puts_length c.put_number.ensures.puts);
+          omega (arith, f, c.requires, c.put_bytes-at.ensures.next, c.put_number.ensures.value, puts_length c.put_bytes-at.ensures, puts_length c.put_number.ensures.puts);
     }

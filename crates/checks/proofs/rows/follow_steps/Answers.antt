@@ -2,7 +2,6 @@
 -- Assumes nothing.
 use mathlib.Core.Bool.{not}
 use mathlib.Core.Path.{ap}
-use Prim.Native.Nat.{◌-◌}
 use native.Mathlib.Omega.{arith}
 use Rattle.checks.proofs.CheckLaws.{held_entries}
 use Rattle.checks.proofs.RowLaws.{some_rows, next_within, passed_start, passed_next, above, no_step, wrong_row, wrong_sum, arrived}

@@ -1,5 +1,4 @@
 use mathlib.Core.Path.{◌≡◌}
-use Prim.Native.Nat.{◌-◌}
 use native.Mathlib.Omega.{arith}
 use Rattle.grid.proofs.UnitLaws.{added_start, added_fits, added_turn}
 use Rattle.grid.proofs.units.add_item.Goals as goal

@@ -1,7 +1,6 @@
 -- `ladder::gaps::climbs` meets its contract. The invariant: the start is safe and no gap was found so far. Assumes nothing.
 use mathlib.Core.Bool.{not}
 use mathlib.Core.Path.{ap}
-use Prim.Native.Nat.{◌-◌}
 use native.Mathlib.Omega.{arith}
 use Rattle.ladder.proofs.PlanLaws.{clear_bottom, clear_next, gap_none, clear_all}
 use Rattle.ladder.proofs.gaps.climbs.Goals as goal

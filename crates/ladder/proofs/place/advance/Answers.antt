@@ -1,5 +1,4 @@
 -- `ladder::place::advance` meets its contract. The invariant: the place is not behind the rung. Assumes nothing.
-use Prim.Native.Nat.{◌-◌}
 use native.Mathlib.Omega.{arith}
 use Rattle.ladder.proofs.place.advance.Goals as goal
 

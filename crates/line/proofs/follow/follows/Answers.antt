@@ -1,7 +1,6 @@
 -- `line::follow::follows` meets its contract. The invariant: the entries before i are steps, and the cursor stands after them. Assumes nothing.
 use mathlib.Core.Bool.{not}
 use mathlib.Core.Path.{ap}
-use Prim.Native.Nat.{◌-◌}
 use native.Mathlib.Omega.{arith}
 use Rattle.line.proofs.CheckLaws.{unsafe_start, passed_start, passed_next, passed_all, falls, above, ahead, refused}
 use Rattle.line.proofs.follow.follows.Goals as goal

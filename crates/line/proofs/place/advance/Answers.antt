@@ -1,5 +1,4 @@
 -- `line::place::advance` meets its contract. The invariant: the place is not behind the cursor. Assumes nothing.
-use Prim.Native.Nat.{◌-◌}
 use native.Mathlib.Omega.{arith}
 use Rattle.line.proofs.SegmentLaws.{in_units}
 use Rattle.line.proofs.PlaceLaws.{ahead_open}

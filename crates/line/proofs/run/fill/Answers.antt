@@ -1,6 +1,5 @@
 -- `line::run::fill` meets its contract. The invariant: n steps from the first state are written where there is room, the cursor stands after
 -- them, and the end was not reached before. Assumes nothing.
-use Prim.Native.Nat.{◌-◌}
 use native.Mathlib.Omega.{arith}
 use Rattle.line.proofs.DealLaws.{covered}
 use Rattle.line.proofs.RunLaws.{going_start, going_next, along_far, along_arrives, along_low, not_yet}

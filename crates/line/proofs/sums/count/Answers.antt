@@ -1,6 +1,5 @@
 -- `line::sums::count` meets its contract. The invariant: n is the sum of the first i units, each below 2 ^ 16. Assumes nothing.
 use mathlib.Core.Path.{◌≡◌, sym, ap, ◌∙◌}
-use Prim.Native.Nat.{◌-◌}
 use native.Mathlib.Omega.{arith}
 use native.Mathlib.Numerals.{add-one}
 use lib.ListN.{length}

@@ -1,6 +1,5 @@
 -- `line::sums::have_units` meets its contract. The invariant: the segments before i, and those from i on, decide. Assumes nothing.
 use mathlib.Core.Path.{◌≡◌, refl}
-use Prim.Native.Nat.{◌-◌}
 use native.Mathlib.Omega.{arith}
 use native.Mathlib.Numerals.{add-one}
 use lib.ListN.{length}

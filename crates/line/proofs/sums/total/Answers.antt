@@ -1,7 +1,6 @@
 -- `line::sums::total` meets its contract. The invariant: sum is the amount over the units of the first i segments, each below 2 ^ 48.
 -- Assumes nothing.
 use mathlib.Core.Path.{◌≡◌, sym, ap, ◌∙◌}
-use Prim.Native.Nat.{◌-◌}
 use native.Mathlib.Omega.{arith}
 use native.Mathlib.Numerals.{add-one}
 use lib.ListN.{length}

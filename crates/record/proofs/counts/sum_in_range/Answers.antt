@@ -1,6 +1,5 @@
 -- The loop's invariant: what is left of 1,000 is what the items before item i leave.
 use mathlib.Core.Path.{sym}
-use Prim.Native.Nat.{◌-◌}
 use native.Mathlib.Omega.{arith}
 use borrow.Author.Tests.{le-leb, lt-leb}
 use Rattle.contract.specs.Valid.{sum}

@@ -1,6 +1,5 @@
 -- The loop's invariant: the units from item i on decide.
 use mathlib.Core.Path.{refl, sym, ◌∙◌}
-use Prim.Native.Nat.{◌-◌}
 use native.Mathlib.Omega.{arith}
 use borrow.Author.Rules.{rules}
 use Rattle.record.proofs.TestLaws.{range_none, range_over, range_turn, range_end}

@@ -1,7 +1,6 @@
 -- The loop's invariant: storing the bytes from byte i on, from index j on, stores all of them.
 use mathlib.Core.Path.{refl}
 use mathlib.Core.List.{[], ◌∷◌}
-use Prim.Native.Nat.{◌-◌}
 use native.Mathlib.Omega.{arith}
 use borrow.Author.Rules.{rules}
 use lib.ListN.{get_or, drop_of_length-le}

@@ -1,5 +1,4 @@
 -- The loop's invariant: storing the segments from segment i on, from index j on, stores all of them.
-use Prim.Native.Nat.{◌-◌}
 use native.Mathlib.Omega.{arith}
 use borrow.Author.Rules.{rules}
 use Rattle.area.proofs.PutLaws.{left_all, left_turn, left_done}

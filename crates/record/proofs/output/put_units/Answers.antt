@@ -1,5 +1,4 @@
 -- The loop's invariant: storing the units from item i on, from index j on, stores all of them.
-use Prim.Native.Nat.{◌-◌}
 use native.Mathlib.Omega.{arith}
 use borrow.Author.Rules.{rules}
 use Rattle.area.specs.Entries.{digits}

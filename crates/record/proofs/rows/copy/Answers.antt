@@ -3,7 +3,7 @@ use lib.ListN.{length, get_or, set, length-set}
 use lib.Seq.{take-length}
 use Rattle.record.proofs.TableLaws.{copy_more}
 use mathlib.Core.Path.{◌≡◌, refl, ap, ◌∙◌}
-use Prim.Native.Nat.{ℕ, ◌-◌}
+use Prim.Native.Nat.{ℕ}
 use native.Mathlib.Omega.{arith}
 use Rattle.record.proofs.rows.copy.Goals as goal
 

@@ -1,7 +1,7 @@
 use mathlib.Core.List.{◌++◌}
 use lib.ListN.{length, take, drop}
 use mathlib.Core.Path.{◌≡◌}
-use Prim.Native.Nat.{◌+◌, ◌-◌, ◌≤◌}
+use Prim.Native.Nat.{◌-◌, ◌≤◌}
 use Rattle.record.proofs.rows.copy.Given as goal
 
 abbrev pub invariant-loop-k : goal.invariant-loop-k

@@ -1,5 +1,5 @@
 use mathlib.Core.Path.{◌≡◌, ◌∙◌}
-use Prim.Native.Nat.{◌+◌, ◌-◌, ◌*◌, zero-le}
+use Prim.Native.Nat.{◌+◌, ◌*◌, zero-le}
 use lib.ListN.{get_or}
 use Rattle.area.specs.Entries.{num}
 use Rattle.record.proofs.Laws.{spaced_next, filling_none, filling_more, next_index}

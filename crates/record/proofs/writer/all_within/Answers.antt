@@ -1,6 +1,5 @@
 -- The loop's invariant: the cells from cell i on decide.
 use mathlib.Core.Path.{refl, sym, ◌∙◌}
-use Prim.Native.Nat.{◌-◌}
 use native.Mathlib.Omega.{arith}
 use borrow.Author.Rules.{rules}
 use Rattle.record.proofs.TestLaws.{within_over, within_turn, within_end}

@@ -1,6 +1,5 @@
 -- The loop's invariant: the total is that of the amounts before amount i and of those from it on.
 use mathlib.Core.Path.{sym}
-use Prim.Native.Nat.{◌-◌}
 use native.Mathlib.Omega.{arith}
 use borrow.Author.Tests.{le-leb, lt-leb}
 use lib.ListN.{length}

@@ -1,5 +1,5 @@
 use mathlib.Core.Path.{◌≡◌, refl, subst}
-use Prim.Native.Nat.{ℕ, ◌-◌, ◌<◌}
+use Prim.Native.Nat.{ℕ, ◌<◌}
 use native.Mathlib.Omega.{arith}
 use Rattle.search.specs.Layers.{notes, Noting}
 use Rattle.search.proofs.NoteLaws.{noting_start, noting_passed, noting_next, noting_room}

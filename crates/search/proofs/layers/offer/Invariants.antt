@@ -1,4 +1,3 @@
-use Prim.Native.Nat.{◌-◌}
 use Rattle.grid.specs.Rows.{rows_of}
 use Rattle.search.specs.Layers.{Listing}
 use Rattle.search.proofs.OfferLaws.{Offering}

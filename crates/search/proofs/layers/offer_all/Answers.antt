@@ -1,5 +1,5 @@
 use mathlib.Core.Path.{◌≡◌, refl, subst}
-use Prim.Native.Nat.{ℕ, ◌-◌}
+use Prim.Native.Nat.{ℕ}
 use native.Mathlib.Omega.{arith}
 use Rattle.search.specs.Layers.{front, Offered}
 use Rattle.search.proofs.OfferLaws.{need_at_lem, floor_at, offered_none, offered_more}

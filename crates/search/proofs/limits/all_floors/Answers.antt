@@ -1,5 +1,4 @@
 use mathlib.Core.Path.{◌≡◌, subst}
-use Prim.Native.Nat.{◌-◌}
 use native.Mathlib.Omega.{arith}
 use Rattle.search.specs.Layers.{Lists}
 use Rattle.search.proofs.LimitLaws.{lists_none, lists_more}

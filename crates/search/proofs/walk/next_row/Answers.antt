@@ -1,4 +1,3 @@
-use Prim.Native.Nat.{◌-◌}
 use native.Mathlib.Omega.{arith}
 use Rattle.search.proofs.WalkLaws.{looking_start, looking_found, looking_next, looking_none}
 use Rattle.search.proofs.walk.next_row.Goals as goal

@@ -1,5 +1,4 @@
 -- `text::put_steps` puts the lines of all steps.
-use Prim.Native.Nat.{◌-◌}
 use native.Mathlib.Omega.{arith}
 use borrow.Author.Rules.{rules}
 use Rattle.text.proofs.Fields.{lining_starts, lining_turn, lining_ends}
