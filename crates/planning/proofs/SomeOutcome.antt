@@ -61,7 +61,7 @@ record Stored (xs : List State) (places sums : List ℕ) : Type 0 where
   places_bytes : Bytes places'
   sums_bytes : Bytes sums'
 
-module _ (d : Deal) (last_Fits : d.last < 256 ^ 2) (price_fits : d.price < 256 ^ 4) where
+module _ (d : Deal) (last_fits : d.last < 256 ^ 2) (price_fits : d.price < 256 ^ 4) where
   places_fit : (s : State) (xs : List State) → Steps d s xs → Below (256 ^ 2) (map (λ t. t.place) xs)
   places_fit s [] h i = omega arith
   places_fit s (t ∷ ts) h zero = omega (arith, h.0.in_deal)

@@ -196,7 +196,7 @@ module _ {w : Work} (o : OnLine w) where
         } in
         let b : Behind half u =
         record { place = (farthest_is w.floor 0 w.last).greatest t.place r.in_deal r.covered; paid = omega arith } in
-        let most_steps_lem = within (greedy_leads o) move_events half u (step_stands u delivery_step) b (t ∷ xs) (rest, steps.1) there n a in
+        let most_steps = within (greedy_leads o) move_events half u (step_stands u delivery_step) b (t ∷ xs) (rest, steps.1) there n a in
         let one = rises_most 0 u.place in
         let none = rises_not 0 0 (omega arith) in
         let same = rises_not t.place t.place (le_refl _) in
@@ -208,7 +208,7 @@ module _ {w : Work} (o : OnLine w) where
     lead_paying t xs steps there e h n a =
         let u = payment w in
         let b : Behind t u = record { place = omega arith; paid = steps.0.afforded } in
-        let most_steps_lem = within (greedy_leads o) move_events t u (step_stands u payment_step) b xs steps.1 there n a in
+        let most_steps = within (greedy_leads o) move_events t u (step_stands u payment_step) b xs steps.1 there n a in
         let one = rises_most 0 u.paid in
         let none = rises_not 0 0 (omega arith) in
         let more = rises_more 0 t.paid h in
