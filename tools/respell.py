@@ -1,5 +1,5 @@
 #!/usr/bin/env python3
-"""Brings this repository's own names in antt to today's spelling: words in snake case. Run once, after /opt/rattle/port/port.py.
+"""Brings this repository's own names in antt to today's spelling: words in snake case. Run once, after port.py of the kit.
 
 usage: tools/respell.py        (at the top of the repository)
 
