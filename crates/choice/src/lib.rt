@@ -114,7 +114,7 @@ fn find_best(
 }
 
 // Item numbers from 1 in the order in which the items were placed, then zeros.
-#[derive(Drop)]
+#[derive(Clone, Copy)]
 struct Items {
     items: [u8; 8],
     count: usize,
@@ -163,7 +163,7 @@ fn join(mut items: [u8; 8], count: usize, back: &[u8; 8], more: usize) -> [u8; 8
 }
 
 // The eight order bytes: item numbers from 1, then zeros; all zero where no order is found.
-#[derive(Drop)]
+#[derive(Clone, Copy)]
 pub struct Chosen {
     pub found: bool,
     pub order: [u8; 8],
