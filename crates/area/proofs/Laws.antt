@@ -3,15 +3,16 @@
 use mathlib.Core.Path.{◌≡◌, refl, sym, ap, ap₂, ◌∙◌}
 use mathlib.Core.Logic.{◌≢◌}
 use mathlib.Core.List.{List, [], ◌∷◌, ◌++◌, append_assoc, append-nil}
-use Prim.Native.Nat.{ℕ, zero, suc, ◌+◌, ◌-◌, ◌*◌, ◌/◌, ◌^◌, ◌≤◌, ◌<◌, suc-le-suc}
-use native.Mathlib.Nat.{add_assoc, add_comm, add-zero, zero-add, add-suc, suc-add, add-mul, zero-mul, one-mul, suc-mul, le_of_suc-le-suc, mul-le-mul_right, mul-add-div_right, mul-div_cancel, div_self, zero-div, le-div_iff_mul-le, one-le-pow, div-mul-le_self, add-sub_cancel_left, add-sub_of_le, le_of_lt}
+use Prim.Native.Nat.{ℕ, zero, suc, ◌+◌, ◌-◌, ◌*◌, ◌/◌, ◌%◌, ◌^◌, ◌≤◌, ◌<◌, suc-le-suc}
+use native.Mathlib.Nat.{add_assoc, add_comm, add-zero, zero-add, add-suc, suc-add, add-mul, zero-mul, one-mul, suc-mul, le_of_suc-le-suc, mul-le-mul_right, mul-add-div_right, mul-div_cancel, div_self, zero-div, le-div_iff_mul-le, one-le-pow, div-mul-le_self, add-sub_cancel_left, add-sub_of_le, le_of_lt, div-div-eq-div-mul, pow-suc}
 use native.Mathlib.Decide.{ℕ_discrete}
 use native.Mathlib.Numerals.{add-one}
 use native.Mathlib.Omega.{arith}
-use lib.ListN.{length, get_or, set, take, drop, replicate, length-append, length-set, get_or-append, get_or-eq_default, take-append-drop, length-replicate, replicate-append-replicate, drop_of_length-le}
+use lib.ListN.{length, get_or, set, take, drop, replicate, length-append, length-set, get_or-append, take-append-drop, length-replicate, replicate-append-replicate}
 use lib.Seq.{ext_get_or, get_or-set_same, get_or-set_other, sets, get_or-take, get_or-drop, drop-append-add, drop-append_seam, sets-eq, drop_at, take_at, length-take-le, length_front, append_snoc, set_split, set_out, take_all, drop-length}
 use borrow.Rule.Slice.PartMut.{put_mid, mid_of, mid_len, Post-is}
-use borrow.Author.Tests.{le-leb, lt-leb}
+use borrow.Author.Tests.{le-leb}
+use Rattle.std.specs.Int.{byte_at, bytes_low_first}
 use Rattle.area.specs.Entries.{Bytes, num, digits, up_to, entries, remainder, num_at, put_at, column, Stored, Cleared}
 
 -- ---- up_to
@@ -118,17 +119,9 @@ pub num_at_room : (w : ℕ) (s : List ℕ) (i : ℕ) → i + w ≤ length s → 
 unfolding num_at
 num_at_room w s i h = rw (le-leb _ _ h)
 
-pub num_at_past : (w : ℕ) (s : List ℕ) (i : ℕ) → length s < i + w → num_at w s i ≡ 0
-unfolding num_at
-num_at_past w s i h = rw (lt-leb _ _ h)
-
 pub put_at_room : (w : ℕ) (s : List ℕ) (i v : ℕ) → i + w ≤ length s → put_at w s i v ≡ sets s i (digits w v)
 unfolding put_at
 put_at_room w s i v h = rw (le-leb _ _ h)
-
-pub put_at_past : (w : ℕ) (s : List ℕ) (i v : ℕ) → length s < i + w → put_at w s i v ≡ s
-unfolding put_at
-put_at_past w s i v h = rw (lt-leb _ _ h)
 
 -- ---- entries
 
@@ -147,10 +140,6 @@ part_num w s i h =
     num_at_room w (mid_of i (i + w - i) s) 0 (omega arith)
     ∙ num_ext w (mid_of i (i + w - i) s) s 0 i (λ k l. rw zero-add (get_or-take (i + w - i) (drop i s) k 0 (omega arith) ∙ get_or-drop i s k 0))
 
--- an entry read in its part
-pub entry_read : (w : ℕ) (s : List ℕ) (k : ℕ) → 0 < w → k < length s / w → num_at w (mid_of (k * w) (k * w + w - k * w) s) 0 ≡ get_or (entries w s) k 0
-entry_read w s k pos h = part_num w s (k * w) (omega (arith, (le-div_iff_mul-le pos).0 h)) ∙ sym (entries_at w s k h)
-
 -- an entry that there is
 module _ (w : ℕ) (s : List ℕ) (k : ℕ) (h : k < length (entries w s)) where
   pub entry_room : 0 < w → k * w + w ≤ length s
@@ -158,9 +147,6 @@ module _ (w : ℕ) (s : List ℕ) (k : ℕ) (h : k < length (entries w s)) where
 
   pub entry_num : num w s (k * w) ≡ get_or (entries w s) k 0
   entry_num = sym (entries_at w s k (rw entries_length at h))
-
-pub entries_past : (w : ℕ) (s : List ℕ) (k : ℕ) → length s / w ≤ k → get_or (entries w s) k 0 ≡ 0
-entries_past w s k h = get_or-eq_default (entries w s) 0 (rw entries_length h)
 
 -- n whole entries, and what follows them
 module _ (w n : ℕ) (s t : List ℕ) (pos : 0 < w) (e : length s ≡ n * w) where
@@ -246,68 +232,88 @@ replaced w n m s b pos h e = record { entries_new = new; remainder_kept = kept; 
     same : length t ≡ length s
     same = length_front s (take (n * w) s ++ b) ((n + m) * w) (size ∙ sym (front_length w (n + m) s pos h))
 
--- a number stored in a part of exactly its bytes is the part
-part_put : (w : ℕ) (s : List ℕ) (i v : ℕ) → i + w ≤ length s → put_at w (mid_of i (i + w - i) s) 0 v ≡ digits w v
-part_put w s i v h =
-    let size : length (mid_of i (i + w - i) s) ≡ i + w - i = mid_len i (i + w) s h in
-    let long : length (digits w v) ≡ w = digits_length w v in
-    rw (put_at_room w (mid_of i (i + w - i) s) 0 v (omega arith), sets-eq (digits w v) (mid_of i (i + w - i) s) 0 (omega arith), drop_of_length-le (mid_of i (i + w - i) s) {i = 0 + length (digits w v)} (omega arith))
-    (append-nil (digits w v))
+-- std's bytes of a number are its digits
+digits_low_first : (i w n : ℕ) → bytes_low_first i w n ≡ digits w (n / 256 ^ i)
+unfolding digits
+digits_low_first i zero n = refl
+digits_low_first i (suc w) n = ap₂ ◌∷◌ (first i) (digits_low_first (suc i) w n ∙ ap (digits w) next)
+  where
+    first : (i : ℕ) → byte_at i n ≡ n / 256 ^ i % 256
+    first zero = omega arith
+    first (suc i) = refl
 
--- an entry stored in its part
-pub stored_entry : (w : ℕ) (s ys : List ℕ) (k v : ℕ) → 0 < w → k < length s / w → v < 256 ^ w
-    → ys ≡ put_at w (mid_of (k * w) (k * w + w - k * w) s) 0 v → Stored w s (put_mid (k * w) (k * w + w - k * w) s ys) k v
-stored_entry w s ys k v pos h l e = rw place record { entries_set = one; remainder_kept = r.remainder_kept; length_kept = r.length_kept }
+    next : n / 256 ^ suc i ≡ n / 256 ^ i / 256
+    next = rw (div-div-eq-div-mul, ← pow-suc)
+
+-- bytes copied into a part of their length are stored one after the other
+pub part_copied : (w : ℕ) (s ys : List ℕ) (i : ℕ) → i + w ≤ length s → length ys ≡ w → put_mid i (i + w - i) s ys ≡ sets s i ys
+part_copied w s ys i h l = rw (Post-is i (i + w) s (omega arith), sets-eq ys s i (omega arith), l, append_assoc)
+
+-- so are a number's
+pub copied : (w : ℕ) (s ys : List ℕ) (i v : ℕ) → i + w ≤ length s → ys ≡ bytes_low_first 0 w v → put_mid i (i + w - i) s ys ≡ sets s i (digits w v)
+copied w s ys i v h e =
+    let own : ys ≡ digits w v = e ∙ digits_low_first 0 w v ∙ ap (digits w) (omega arith) in
+    rw own (part_copied w s (digits w v) i h (digits_length w v))
+
+-- an entry stored in its bytes
+pub stored_entry : (w : ℕ) (s : List ℕ) (k v : ℕ) → 0 < w → k < length (entries w s) → v < 256 ^ w → Stored w s (sets s (k * w) (digits w v)) k v
+stored_entry w s k v pos h l = rw place record { entries_set = one; remainder_kept = r.remainder_kept; length_kept = r.length_kept }
   where
     t : List ℕ
     t = take (k * w) s ++ digits w v ++ drop ((k + 1) * w) s
 
-    place : put_mid (k * w) (k * w + w - k * w) s ys ≡ t
+    place : sets s (k * w) (digits w v) ≡ t
     place =
-        rw (e, part_put w s (k * w) v (omega (arith, (le-div_iff_mul-le pos).0 h)), Post-is (k * w) (k * w + w) s (omega arith), add-mul, one-mul, append_assoc)
+        let long = digits_length w v in
+        rw (sets-eq (digits w v) s (k * w) (omega (arith, entry_room w s k h pos)), long, add-mul, one-mul, append_assoc)
 
     r : Replaced w k 1 s (digits w v) t
-    r = replaced w k 1 s (digits w v) pos (omega arith) (omega (arith, digits_length w v))
+    r = replaced w k 1 s (digits w v) pos (rw (← entries_length w s) (omega arith)) (omega (arith, digits_length w v))
 
     one : entries w t ≡ set (entries w s) k v
-    one = rw (r.entries_new, entries_digits w v pos l, append_snoc, add-one, ← set_split (entries w s) k v (rw entries_length h))
+    one = rw (r.entries_new, entries_digits w v pos l, append_snoc, add-one, ← set_split (entries w s) k v h)
 
-pub stored_none : (w : ℕ) (s : List ℕ) (k v : ℕ) → length s / w ≤ k → Stored w s s k v
-stored_none w s k v h = record { entries_set = sym (set_out (entries w s) k v (rw entries_length h)); remainder_kept = refl; length_kept = refl }
+pub stored_none : (w : ℕ) (s : List ℕ) (k v : ℕ) → length (entries w s) ≤ k → Stored w s s k v
+stored_none w s k v h = record { entries_set = sym (set_out (entries w s) k v h); remainder_kept = refl; length_kept = refl }
 
 -- the bytes from entry n to the end of the last entry are zeroed
-pub cleared_from : (w n : ℕ) (s ys : List ℕ) → 0 < w → n < length s / w → ys ≡ replicate (length (mid_of (n * w) (length s / w * w - n * w) s)) 0 → Cleared w s (put_mid (n * w) (length s / w * w - n * w) s ys) n
-cleared_from w n s ys pos h z = rw place record { entries_zero = zeroed; remainder_kept = r.remainder_kept; length_kept = r.length_kept }
-  where
-    m : ℕ
-    m = length s / w - n
+module _ (w n : ℕ) (s : List ℕ) where
+  pub entries_end : length (entries w s) * w ≤ length s
+  entries_end = rw entries_length (div-mul-le_self (length s) w)
 
-    all : n + m ≡ length s / w
-    all = add-sub_of_le (le_of_lt h)
+  pub cleared_from : (ys : List ℕ) → 0 < w → n < length (entries w s) → ys ≡ replicate (length (mid_of (n * w) (length (entries w s) * w - n * w) s)) 0
+      → Cleared w s (put_mid (n * w) (length (entries w s) * w - n * w) s ys) n
+  cleared_from ys pos h z = rw place record { entries_zero = zeroed; remainder_kept = r.remainder_kept; length_kept = r.length_kept }
+    where
+      m : ℕ
+      m = length (entries w s) - n
 
-    bytes : (n + m) * w ≡ length s / w * w
-    bytes = rw all
+      all : n + m ≡ length (entries w s)
+      all = add-sub_of_le (le_of_lt h)
 
-    t : List ℕ
-    t = take (n * w) s ++ replicate (m * w) 0 ++ drop ((n + m) * w) s
+      bytes : (n + m) * w ≡ length (entries w s) * w
+      bytes = rw all
 
-    place : put_mid (n * w) (length s / w * w - n * w) s ys ≡ t
-    place =
-        rw (z, mid_len (n * w) _ s (div-mul-le_self (length s) w), Post-is (n * w) (length s / w * w) s (mul-le-mul_right w (le_of_lt h)), ← bytes, add-mul, add-sub_cancel_left, append_assoc)
+      t : List ℕ
+      t = take (n * w) s ++ replicate (m * w) 0 ++ drop ((n + m) * w) s
 
-    r : Replaced w n m s (replicate (m * w) 0) t
-    r = replaced w n m s (replicate (m * w) 0) pos (omega arith) (length-replicate (m * w) 0)
+      place : put_mid (n * w) (length (entries w s) * w - n * w) s ys ≡ t
+      place =
+          rw (z, mid_len (n * w) _ s entries_end, Post-is (n * w) (length (entries w s) * w) s (mul-le-mul_right w (le_of_lt h)), ← bytes, add-mul, add-sub_cancel_left, append_assoc)
 
-    zeroed : entries w t ≡ take n (entries w s) ++ replicate (length (entries w s) - n) 0
-    zeroed = rw (r.entries_new, entries_zero w m pos, all, ← entries_length, drop-length, append-nil)
+      r : Replaced w n m s (replicate (m * w) 0) t
+      r = replaced w n m s (replicate (m * w) 0) pos (rw (← entries_length w s) (omega arith)) (length-replicate (m * w) 0)
 
-pub cleared_none : (w n : ℕ) (s : List ℕ) → length s / w ≤ n → Cleared w s s n
-cleared_none w n s h = record { entries_zero = same; remainder_kept = refl; length_kept = refl }
-  where
-    same : entries w s ≡ take n (entries w s) ++ replicate (length (entries w s) - n) 0
-    same =
-        let z : length (entries w s) - n ≡ 0 = omega (arith, entries_length w s) in
-        rw (z, take_all n (entries w s) (rw entries_length h), append-nil)
+      zeroed : entries w t ≡ take n (entries w s) ++ replicate (length (entries w s) - n) 0
+      zeroed = rw (r.entries_new, entries_zero w m pos, all, drop-length, append-nil)
+
+  pub cleared_none : length (entries w s) ≤ n → Cleared w s s n
+  cleared_none h = record { entries_zero = same; remainder_kept = refl; length_kept = refl }
+    where
+      same : entries w s ≡ take n (entries w s) ++ replicate (length (entries w s) - n) 0
+      same =
+          let z : length (entries w s) - n ≡ 0 = omega arith in
+          rw (z, take_all n (entries w s) h, append-nil)
 
 -- ---- a list filled from the front
 

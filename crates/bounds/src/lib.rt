@@ -9,19 +9,17 @@ ghost use Rattle.bounds.specs.Places.{row_bounds};
 mod by_form;
 mod places;
 
-use exchange::Sides;
-use planning::Bounded;
+use exchange::{Bounds, Sides};
+use planning::BoundsError;
 use record::Found;
 
 // The bounds of a place along the order that the order bytes name.
-pub fn bounds(bytes: &[u8], place: usize, order: &[u8]) -> Bounded
+pub fn bounds(bytes: &[u8], place: usize, order: &[u8]) -> Result<Bounds, BoundsError>
     ensures { bounded_of result ≡ bounds_of bytes.now place order.now }
 {
-    match record::find(bytes) {
-        Found::Refused(e) => Bounded::Refused(e),
+    match record::find(bytes)? {
         Found::Ladder(l) => places::bounds_ladder(l, bytes, place, order),
-        Found::UnitPrices => by_form::bounds_other(bytes, place, order),
-        Found::Table => by_form::bounds_other(bytes, place, order),
+        Found::UnitPrices | Found::Table => by_form::bounds_other(bytes, place, order),
     }
 }
 
@@ -29,25 +27,18 @@ pub fn bounds(bytes: &[u8], place: usize, order: &[u8]) -> Bounded
 fn cell(cells: &[u32], row: usize) -> u32
     ensures { result ≡ get_or cells.now row 0 }
 {
-    if row < cells.len() {
-        return cells[row];
-    }
-    0
+    cells.get(row).copied().unwrap_or(0)
 }
 
 // The cell of the last row; 0 if there is none.
 fn last_cell(cells: &[u32]) -> u32
     ensures { result ≡ get_or cells.now (length cells.now - 1) 0 }
 {
-    let n = cells.len();
-    if n == 0 {
-        return 0;
-    }
-    cells[n - 1]
+    cells.last().copied().unwrap_or(0)
 }
 
 // The bounds of a row, by its cells and those of the last row.
-pub fn row_bounds(sides: Sides, costs: &[u32], values: &[u32], row: usize) -> exchange::Bounds
+pub fn row_bounds(sides: Sides, costs: &[u32], values: &[u32], row: usize) -> Bounds
     ensures { result ≡ row_bounds sides costs.now values.now row }
 {
     let lower = exchange::lower(
@@ -62,5 +53,5 @@ pub fn row_bounds(sides: Sides, costs: &[u32], values: &[u32], row: usize) -> ex
         cell(costs, row),
         sides.supplier,
     );
-    exchange::Bounds { lower, upper }
+    Bounds { lower, upper }
 }

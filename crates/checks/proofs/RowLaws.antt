@@ -1,7 +1,7 @@
 -- A brought plan over the rows of a table, followed step by step. Assumes nothing.
-use mathlib.Core.Path.{◌≡◌, refl, sym, ap, ◌∙◌, subst}
+use mathlib.Core.Path.{◌≡◌, refl, sym, ◌∙◌, subst}
 use mathlib.Core.Logic.{◌↔◌}
-use mathlib.Core.Bool.{Bool, true, false, not}
+use mathlib.Core.Bool.{Bool, true, false, not, false≢true}
 use mathlib.Core.List.{List, []}
 use Prim.Native.Nat.{ℕ, ◌+◌, ◌-◌, ◌≤◌, ◌<◌}
 use native.Mathlib.Numerals.{add-one}
@@ -14,110 +14,129 @@ use Rattle.area.specs.Entries.{entries}
 use Rattle.grid.specs.Rows.{rows_of}
 use Rattle.grid.specs.Units.{Small, RowUnits}
 use Rattle.grid.proofs.RowLaws.{rows_pos}
-use Rattle.contract.specs.Res.{refused}
 use Rattle.contract.specs.Valid.{Valid}
 use Rattle.contract.specs.declared.Form.TheVariants.{Table}
-use Rattle.exchange.specs.Deal.{Deal, State, Safe, Step, Steps, Plan, start, ends}
+use Rattle.exchange.specs.Deal.{Deal, Safe, Step, Steps, Plan, start, ends}
 use Rattle.exchange.specs.Forms.{table_terms, table, holds_row}
 use Rattle.exchange.specs.PlanIn.{plan_in}
 use Rattle.exchange.specs.Test.{bounds_at, start_test, step_test}
 use Rattle.exchange.specs.Work.{Rising}
 use Rattle.exchange.specs.declared.Sides.{Sides}
+use Rattle.line.specs.declared.Totals.{Totals}
 use Rattle.exchange.proofs.Bridge.{plan_start}
 use Rattle.exchange.proofs.GivenOrder.Run.{state_eq}
 use Rattle.exchange.proofs.PlanInLaws.{entry_in, plan_none, plan_step, plan_next, plan_end}
 use Rattle.exchange.proofs.TestLaws.{start_test↔, step↔}
 use Rattle.held.specs.Words.{holds_word}
 use Rattle.held.proofs.WordLaws.{held_word}
-use Rattle.line.specs.CheckCode.{passes}
+use Rattle.line.specs.CheckCode.{Judges, passes}
 use Rattle.line.proofs.CheckLaws.{passes_step}
 use Rattle.planning.specs.Deals.{contract_with}
 use Rattle.planning.proofs.TablePlan.{few_items, costs_rows, values_rows, few_rows}
 use Rattle.planning.proofs.FormRising.{form_rising}
 use Rattle.bounds.specs.Places.{row_bounds}
-use Rattle.checks.specs.Brought.{Brought, Ready}
-use Rattle.checks.specs.declared.rows.Terms.{Terms}
-use Rattle.planning.specs.Judged.{Judges}
+use Rattle.checks.specs.declared.brought.Brought.{Brought}
+use Rattle.planning.specs.declared.terms.Terms.{Terms}
+use Rattle.planning.proofs.TermsLaws.{valid_as}
 use Rattle.bounds.proofs.BoundsLaws.{row_bounds_are}
 use Rattle.checks.proofs.CheckLaws.{held_entries}
 
--- ---- the test of a step between two rows
+-- ---- a table
 
-module _ {t : Terms} {us held cs vs : List ℕ} (valid : Valid (contract_with Table t.sides us cs vs)) (ready : Ready t us held cs vs) {a b : ℕ}
-    (first : a < length cs) (second : b < length cs) (p q : ℕ) where
-  -- whether it is a step, by whether row b holds the units of row a
-  abbrev is_step : Bool → Bool
-  is_step h = step_test h (row_bounds t.sides cs vs a) (row_bounds t.sides cs vs b) p q t.sides.price
+module _ (t : Terms) (form : t.form ≡ Table) where
+  abbrev s : Sides
+  s = t.sides
 
-  -- no bound falls on the way to a row that holds the units of the first
-  bounds_rise : T (holds_row us a b)
-      → ((row_bounds t.sides cs vs a).lower ≤ℤ (row_bounds t.sides cs vs b).lower) × ((row_bounds t.sides cs vs a).upper ≤ℤ (row_bounds t.sides cs vs b).upper)
-  bounds_rise h =
-      let lc = costs_rows t.sides us cs vs valid in
-      let lv = values_rows t.sides us cs vs valid in
-      let r = form_rising Table t.sides us cs vs [] valid in
-      let i : a ≤ rows_of us - 1 = omega arith in
-      let j : b ≤ rows_of us - 1 = omega arith in
-      rw (lc, lv) (r.lower_rises a b i j h, r.upper_rises a b i j h)
+  abbrev us : List ℕ
+  us = t.units.now
 
-  -- the tests that line makes, and whether row b holds the units of row a
-  module _ {r : Bool} (e : r ≡ passes t.sides t.all (get_or cs a 0) (get_or vs b 0) p q) where
-    decides : (h : Bool)
-        → (T h → ((row_bounds t.sides cs vs a).lower ≤ℤ (row_bounds t.sides cs vs b).lower) × ((row_bounds t.sides cs vs a).upper ≤ℤ (row_bounds t.sides cs vs b).upper))
-        → (not r ≡ true → false ≡ is_step h) × (not r ≡ false → h ≡ is_step h)
-    unfolding step_test
-    decides true rise =
-        let f = e ∙ passes_step t.sides t.all (get_or cs a 0) (get_or vs b 0) p q (row_bounds t.sides cs vs a) (row_bounds t.sides cs vs b) (rw ready.value_is refl) (rw ready.cost_is refl) (rise tt).0 (rise tt).1 in
-        (λ y. sym (not-true r y) ∙ f, λ y. sym (not-false r y) ∙ f)
-    decides false rise = (λ _. refl, λ _. refl)
+  abbrev cs : List ℕ
+  cs = t.costs.now
 
-    pub fails : not r ≡ true → false ≡ is_step (holds_row us a b)
-    fails y = (decides (holds_row us a b) bounds_rise).0 y
+  abbrev vs : List ℕ
+  vs = t.values.now
 
-    -- the words of the rows compare their units
-    pub held_decides : not r ≡ false → {h : Bool} → h ≡ holds_word 4 (get_or held a 0) (get_or held b 0) → h ≡ is_step (holds_row us a b)
-    held_decides y k =
+  valid : Valid (contract_with Table s us cs vs)
+  valid = valid_as t form
+
+  pub some_rows : 0 < length cs
+  some_rows = omega (arith, costs_rows s us cs vs valid, rows_pos us)
+
+  pub last_value : length cs - 1 < length vs
+  last_value = omega (arith, some_rows, costs_rows s us cs vs valid, values_rows s us cs vs valid)
+
+  pub small : Small us
+  small = record { items = few_items s us cs vs valid; rows = few_rows s us cs vs valid }
+
+  -- ---- the test of a step between two rows
+
+  module _ (held : List ℕ) (last : Totals) (units_held : RowUnits us held (rows_of us))
+      (cost_is : last.cost ≡ get_or cs (length cs - 1) 0) (value_is : last.value ≡ get_or vs (length vs - 1) 0)
+      {a b : ℕ} (first : a < length cs) (second : b < length cs) (p q : ℕ) where
+    -- whether it is a step, by whether row b holds the units of row a
+    abbrev is_step : Bool → Bool
+    is_step h = step_test h (row_bounds t.sides cs vs a) (row_bounds t.sides cs vs b) p q t.sides.price
+
+    -- no bound falls on the way to a row that holds the units of the first
+    bounds_rise : T (holds_row us a b)
+        → ((row_bounds t.sides cs vs a).lower ≤ℤ (row_bounds t.sides cs vs b).lower) × ((row_bounds t.sides cs vs a).upper ≤ℤ (row_bounds t.sides cs vs b).upper)
+    bounds_rise h =
         let lc = costs_rows t.sides us cs vs valid in
-        let few : Small us = record { items = few_items t.sides us cs vs valid; rows = few_rows t.sides us cs vs valid } in
-        k
-        ∙ rw (ready.units_held.word_at a (omega arith), ready.units_held.word_at b (omega arith)) (held_word us a b few)
-        ∙ (decides (holds_row us a b) bounds_rise).1 y
+        let lv = values_rows t.sides us cs vs valid in
+        let r = form_rising Table t.sides us cs vs [] valid in
+        let i : a ≤ rows_of us - 1 = omega arith in
+        let j : b ≤ rows_of us - 1 = omega arith in
+        rw (lc, lv) (r.lower_rises a b i j h, r.upper_rises a b i j h)
 
--- ---- a brought plan, step by step
+    -- the tests that line makes, and whether row b holds the units of row a
+    module _ {r : Bool} (e : r ≡ passes t.sides last (get_or cs a 0) (get_or vs b 0) p q) where
+      decides : (h : Bool)
+          → (T h → ((row_bounds t.sides cs vs a).lower ≤ℤ (row_bounds t.sides cs vs b).lower) × ((row_bounds t.sides cs vs a).upper ≤ℤ (row_bounds t.sides cs vs b).upper))
+          → (not r ≡ true → false ≡ is_step h) × (not r ≡ false → h ≡ is_step h)
+      unfolding step_test
+      decides true rise =
+          let f = e ∙ passes_step t.sides last (get_or cs a 0) (get_or vs b 0) p q (row_bounds t.sides cs vs a) (row_bounds t.sides cs vs b) (rw value_is refl) (rw cost_is refl) (rise tt).0 (rise tt).1 in
+          (λ y. sym (not-true r y) ∙ f, λ y. sym (not-false r y) ∙ f)
+      decides false rise = (λ _. refl, λ _. refl)
 
-module _ (s : Sides) (us cs vs : List ℕ) (n : ℕ) (places sums : List ℕ) where
-  -- the deal of the table
-  abbrev d : Deal
-  d = table s us cs vs
+      pub fails : not r ≡ true → false ≡ is_step (holds_row us a b)
+      fails y = (decides (holds_row us a b) bounds_rise).0 y
 
-  -- the start is safe, the first i entries are steps, and the row and the payment stand after them
-  pub record Passed (row paid i : ℕ) : Type 0 where
-    pub start_safe : Safe d 0 0
-    pub within : i ≤ n
-    pub at : row < length cs
-    pub steps : Steps d start (plan_in i places sums)
-    pub state_is : ends start (plan_in i places sums) ≡ record { place = row; paid = paid }
+      -- the words of the rows compare their units
+      pub held_decides : not r ≡ false → {h : Bool} → h ≡ holds_word 4 (get_or held a 0) (get_or held b 0) → h ≡ is_step (holds_row us a b)
+      held_decides y k =
+          let lc = costs_rows t.sides us cs vs valid in
+          let few : Small us = record { items = few_items t.sides us cs vs valid; rows = few_rows t.sides us cs vs valid } in
+          k
+          ∙ rw (units_held.word_at a (omega arith), units_held.word_at b (omega arith)) (held_word us a b few)
+          ∙ (decides (holds_row us a b) bounds_rise).1 y
 
-  none : (Plan d (plan_in n places sums) → ⊥) → Judges d (plan_in n places sums) (refused 12)
-  none f = (refl, f)
+  -- ---- a brought plan, step by step
 
-  module _ (b : Brought (contract_with Table s us cs vs) n places sums) where
-    pub some_rows : 0 < length cs
-    some_rows = omega (arith, costs_rows s us cs vs b.valid, rows_pos us)
+  module _ (b : Brought) where
+    abbrev n : ℕ
+    n = b.count
 
-    pub last_value : length cs - 1 < length vs
-    last_value = omega (arith, some_rows, costs_rows s us cs vs b.valid, values_rows s us cs vs b.valid)
+    abbrev places : List ℕ
+    places = b.places.now
 
-    pub small : Small us
-    small = record { items = few_items s us cs vs b.valid; rows = few_rows s us cs vs b.valid }
+    abbrev sums : List ℕ
+    sums = b.sums.now
 
-    -- the tests can be made
-    pub ready : {held : List ℕ} → RowUnits us held (rows_of us)
-        → Ready (record { sides = s; all = record { units = length cs - 1; cost = get_or cs (length cs - 1) 0; value = get_or vs (length cs - 1) 0 } }) us held cs vs
-    ready {held} u =
-        let lc = costs_rows s us cs vs b.valid in
-        let lv = values_rows s us cs vs b.valid in
-        record { units_held = u; cost_is = refl; value_is = rw (lc, lv) }
+    -- the deal of the table
+    abbrev d : Deal
+    d = table s us cs vs
+
+    -- the start is safe, the first i entries are steps, and the row and the payment stand after them
+    pub record Passed (row paid i : ℕ) : Type 0 where
+      pub start_safe : Safe d 0 0
+      pub within : i ≤ n
+      pub at : row < length cs
+      pub steps : Steps d start (plan_in i places sums)
+      pub state_is : ends start (plan_in i places sums) ≡ record { place = row; paid = paid }
+
+    none : (Plan d (plan_in n places sums) → ⊥) → Judges d (plan_in n places sums) false
+    none f = record { yes = λ e. absurd (false≢true e); no = λ _. f }
 
     places_hold : n ≤ length (entries 2 places)
     places_hold = (held_entries n places sums b.held).0
@@ -126,15 +145,15 @@ module _ (s : Sides) (us cs vs : List ℕ) (n : ℕ) (places sums : List ℕ) wh
     sums_hold = (held_entries n places sums b.held).1
 
     rising : Rising d
-    rising = form_rising Table s us cs vs [] b.valid
+    rising = form_rising Table s us cs vs [] valid
 
     -- the test of the start
     module _ {r : Bool} (e : r ≡ start_test s.price (get_or cs (length cs - 1) 0) (get_or cs 0 0) (get_or vs (length cs - 1) 0) (get_or vs 0 0)) where
       start_test_lem : (r ≡ true) ↔ Safe d 0 0
-      start_test_lem = rw (e, costs_rows s us cs vs b.valid) (start_test↔ (table_terms s us cs vs) (holds_row us))
+      start_test_lem = rw (e, costs_rows s us cs vs valid) (start_test↔ (table_terms s us cs vs) (holds_row us))
 
       -- no plan sets out from an unsafe start
-      pub unsafe_start : not r ≡ true → Judges d (plan_in n places sums) (refused 12)
+      pub unsafe_start : not r ≡ true → Judges d (plan_in n places sums) false
       unsafe_start y = none (λ p. subst T (sym (start_test_lem.1 (plan_start d rising _ p)) ∙ not-true r y) tt)
 
       pub started : not r ≡ false → Safe d 0 0
@@ -151,28 +170,6 @@ module _ (s : Sides) (us cs vs : List ℕ) (n : ℕ) (places sums : List ℕ) wh
         }
 
     module _ {row paid i : ℕ} (g : Passed row paid i) where
-      -- the tests of the end
-      module _ (h : n ≤ i) where
-        same : i ≡ n
-        same = omega (arith, g.within)
-
-        there : ends start (plan_in n places sums) ≡ record { place = row; paid = paid }
-        there = subst (λ (j : ℕ). ends start (plan_in j places sums) ≡ record { place = row; paid = paid }) same g.state_is
-
-        pub wrong_row : (row ≡ length cs - 1 → ⊥) → Judges d (plan_in n places sums) (refused 12)
-        wrong_row f =
-            none (λ p. f (ap (λ (u : State). u.place) (sym there ∙ p.arrives) ∙ sym (ap (λ (m : ℕ). m - 1) (costs_rows s us cs vs b.valid))))
-
-        pub wrong_sum : (paid ≡ s.price → ⊥) → Judges d (plan_in n places sums) (refused 12)
-        wrong_sum f = none (λ p. f (ap (λ (u : State). u.paid) (sym there ∙ p.arrives)))
-
-        pub arrived : row ≡ length cs - 1 → paid ≡ s.price → Plan d (plan_in n places sums)
-        arrived e f =
-            record {
-              steps = subst (λ (j : ℕ). Steps d start (plan_in j places sums)) same g.steps;
-              arrives = there ∙ state_eq (e ∙ ap (λ (m : ℕ). m - 1) (costs_rows s us cs vs b.valid)) f;
-            }
-
       module _ (h : i < n) {next sum : ℕ} (ep : next ≡ get_or (entries 2 places) i 0) (es : sum ≡ get_or (entries 4 sums) i 0) where
         entry : entry_in places sums i ≡ record { place = next; paid = sum }
         entry = state_eq (sym ep) (sym es)
@@ -181,8 +178,8 @@ module _ (s : Sides) (us cs vs : List ℕ) (n : ℕ) (places sums : List ℕ) wh
         step_here : Plan d (plan_in n places sums) → Step d (record { place = row; paid = paid }) (record { place = next; paid = sum })
         step_here p = rw (← g.state_is, ← entry) (plan_step places sums n places_hold sums_hold (Step d) start p.steps i h)
 
-        pub above : length cs - 1 < next → Judges d (plan_in n places sums) (refused 12)
-        above l = none (λ p. let q = (step_here p).in_deal in omega (arith, costs_rows s us cs vs b.valid))
+        pub above : length cs - 1 < next → Judges d (plan_in n places sums) false
+        above l = none (λ p. let q = (step_here p).in_deal in omega (arith, costs_rows s us cs vs valid))
 
         module _ (l : next ≤ length cs - 1) where
           pub next_within : next < length cs
@@ -192,12 +189,12 @@ module _ (s : Sides) (us cs vs : List ℕ) (n : ℕ) (places sums : List ℕ) wh
             -- the test of the step
             tested : (r ≡ true) ↔ Step d (record { place = row; paid = paid }) (record { place = next; paid = sum })
             tested =
-                let q = step↔ d rising g.start_safe (record { place = row; paid = paid }) (record { place = next; paid = sum }) (omega (arith, costs_rows s us cs vs b.valid)) in
+                let q = step↔ d rising g.start_safe (record { place = row; paid = paid }) (record { place = next; paid = sum }) (omega (arith, costs_rows s us cs vs valid)) in
                 let f : r ≡ step_test (holds_row us row next) (bounds_at d row) (bounds_at d next) paid sum s.price =
-                e ∙ rw (row_bounds_are s us cs vs b.valid row, row_bounds_are s us cs vs b.valid next) in
+                e ∙ rw (row_bounds_are t form row, row_bounds_are t form next) in
                 (λ y. q.0 (sym f ∙ y), λ y. f ∙ q.1 y)
 
-            pub no_step : not r ≡ true → Judges d (plan_in n places sums) (refused 12)
+            pub no_step : not r ≡ true → Judges d (plan_in n places sums) false
             no_step y = none (λ p. subst T (sym (tested.1 (step_here p)) ∙ not-true r y) tt)
 
             pub passed_next : not r ≡ false → Passed next sum (i + 1)

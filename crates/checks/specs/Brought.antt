@@ -1,19 +1,30 @@
--- What the functions that check a brought plan ask and give.
-use Rattle.std.specs.Prelude.{◌≡◌, true, List, ℕ, ◌-◌, length, get_or}
-use Rattle.grid.specs.Rows.{rows_of}
-use Rattle.grid.specs.Units.{RowUnits}
+-- A brought plan, and what its checks give.
+use Rattle.std.specs.Prelude.{◌≡◌, Bool, true, false, ◌&&◌, List, ℕ, leb, length, Result, Ok, Err}
 use Rattle.contract.specs.Contract.{Contract}
-use Rattle.contract.specs.Valid.{Valid}
-use Rattle.planning.specs.Check.{holds_count}
-use Rattle.checks.specs.declared.rows.Terms.{Terms}
+use Rattle.contract.specs.declared.Refusal.{Refusal}
+use Rattle.contract.specs.declared.Refusal.TheVariants.{Short}
+use Rattle.exchange.specs.Deal.{State}
+use Rattle.exchange.specs.PlanIn.{plan_in}
+use Rattle.planning.specs.Check.{holds_count, SafeAlong}
+use Rattle.checks.specs.declared.brought.Brought.{Brought}
 
--- a valid contract, and areas with as many entries as the count says
-pub record Brought (k : Contract) (count : ℕ) (places sums : List ℕ) : Type 0 where
-  pub valid : Valid k
-  pub held : holds_count count places sums ≡ true
+-- the plan is as it was brought
+pub record IsBrought (b : Brought) (count : ℕ) (places sums order : List ℕ) : Type 0 where
+  pub count_is : b.count ≡ count
+  pub places_are : b.places.now ≡ places
+  pub sums_are : b.sums.now ≡ sums
+  pub order_is : b.order.now ≡ order
 
--- what the tests of steps read: the units of the rows, and the cells of the last row
-pub record Ready (t : Terms) (us held cs vs : List ℕ) : Type 0 where
-  pub units_held : RowUnits us held (rows_of us)
-  pub cost_is : t.all.cost ≡ get_or cs (length cs - 1) 0
-  pub value_is : t.all.value ≡ get_or vs (length vs - 1) 0
+-- the plan, or 8 where an area is too short for it
+abbrev pub Brings : ℕ → List ℕ → List ℕ → List ℕ → Result Brought Refusal → Type 0
+Brings count places sums order (Ok b) = IsBrought b count places sums order
+Brings count places sums order (Err e) = (e ≡ Short) × ((holds_count count places sums && leb 8 (length order)) ≡ false)
+
+-- its steps
+abbrev pub steps_of : Brought → List State
+steps_of b = plan_in b.count b.places.now b.sums.now
+
+-- whether it is a plan along the order that its bytes name
+pub record Decides (k : Contract) (b : Brought) (r : Bool) : Type 0 where
+  pub yes : r ≡ true → SafeAlong k b.order.now (steps_of b)
+  pub no : r ≡ false → SafeAlong k b.order.now (steps_of b) → ⊥

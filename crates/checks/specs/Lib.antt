@@ -1,2 +1,3 @@
 -- what the private functions ask and give
 pub mod Brought
+pub mod Rows

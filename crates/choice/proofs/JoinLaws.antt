@@ -3,6 +3,7 @@ use mathlib.Core.Path.{◌≡◌, refl}
 use mathlib.Core.Bool.{true, false}
 use mathlib.Core.List.{List, [], ◌∷◌, ◌++◌, reverse, reverse-cons, map, append-nil, append_assoc}
 use mathlib.Core.Option.{none, some}
+use Rattle.std.proofs.Common.{None, Some}
 use Prim.Native.Nat.{ℕ, zero, suc, ◌+◌, ◌-◌, ◌≤◌, ◌<◌}
 use native.Mathlib.Omega.{arith}
 use lib.ListN.{length, get_or, set, drop, replicate, length-append, length-reverse, length-drop, drop_of_length-le}
@@ -64,8 +65,8 @@ module _ (f b items back : List ℕ) (count more : ℕ) (hf : Holds f items coun
 
 -- what is answered for both ends
 module _ (p : Sides) (units costs values : List ℕ) where
-  pub too_many : 8 < length units → Answers p units costs values false (replicate 8 0)
-  too_many h = (refl, λ few items c. absurd (omega arith))
+  pub too_many : 8 < length units → Answers p units costs values None
+  too_many h = λ few items c. absurd (omega arith)
 
   -- the items of each end
   abbrev fronts : List ℕ
@@ -87,16 +88,16 @@ module _ (p : Sides) (units costs values : List ℕ) where
       unfolding both_ends
       length_both = omega (arith, length-append fronts (reverse backs), length-reverse backs, holds_front.counts)
 
-      pub not_all : (count + more ≡ length units → ⊥) → Answers p units costs values false (replicate 8 0)
+      pub not_all : (count + more ≡ length units → ⊥) → Answers p units costs values None
       unfolding choose
       not_all n =
           let none_given : choose p units costs values ≡ none =
           rw (ne_eqb (length (both_ends p units costs values)) (length units) (λ e. n (omega (arith, length_both)))) in
-          (refl, λ few. choose_none p units costs values none_given)
+          λ few. choose_none p units costs values none_given
 
       pub all : {order : List ℕ} → count + more ≡ length units
           → ((f b : List ℕ) → Holds f fi count → Holds b bi more → order ≡ numbered (f ++ reverse b))
-          → Answers p units costs values true order
+          → Answers p units costs values (Some order)
       unfolding choose both_ends
       all e joined =
           let given : choose p units costs values ≡ some (both_ends p units costs values) =

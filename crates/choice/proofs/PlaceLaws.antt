@@ -17,8 +17,8 @@ use Rattle.exchange.specs.Chosen.{at}
 use Rattle.exchange.specs.Choice.{End, sum_over, best, placed}
 use Rattle.exchange.proofs.Choice.Sums.{occurs_append}
 use Rattle.choice.specs.Promise.{numbered}
-use Rattle.choice.specs.Ends.{left_of, Holds}
-use Rattle.choice.proofs.ItemLaws.{sum_one, with_slack, best_left}
+use Rattle.choice.specs.Ends.{left_of, with_slack, Holds}
+use Rattle.choice.proofs.ItemLaws.{sum_one, best_left}
 
 -- one more item
 pub push : (l : List ℕ) (x : ℕ) → length l < 8 → set (numbered l) (length l) (suc x) ≡ numbered (l ++ (x ∷ []))
@@ -128,3 +128,21 @@ module _ {e : End} where
                 added_below = omega arith;
                 taken_below = omega arith;
               })
+
+-- the end as the code holds it, x, is e with the slack there
+module _ {e x : End} {k : ℕ} {todo : List Bool} {items : List ℕ} {added taken : ℕ} (q : x ≡ with_slack e added taken) (small : length e.units ≤ 8)
+    (h : k < length e.units) (g : Going e k todo items added taken) where
+  pub going_done : length x.units ≡ best (left_of x todo) [] (length x.units) → Holds (placed e (length e.units)) items k
+  going_done b = all_placed small h g (rw q at b) (omega arith)
+
+  pub going_next : {j added' taken' : ℕ} → j < length x.units → j ≡ best (left_of x todo) [] (length x.units)
+      → (added' ≡ added + at x.units j * x.gives j) × (added' < added + 2 ^ 48)
+      → (taken' ≡ taken + at x.units j * x.needs j) × (taken' < taken + 2 ^ 48)
+      → Going e (k + 1) (set todo j false) (set items k (j + 1)) added' taken'
+  going_next l b ea et =
+      let a = rw q at ea in
+      let t = rw q at et in
+      going_some small h g (rw q at b) (rw q at l) (refl, omega (arith, a)) (refl, omega (arith, t)) a.0 t.0 refl refl
+
+  pub slack_next : {y : End} {added' taken' : ℕ} → y ≡ with_slack x added' taken' → y ≡ with_slack e added' taken'
+  slack_next r = rw q at r

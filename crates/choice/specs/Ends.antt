@@ -1,8 +1,9 @@
 -- The ends of an order as the code holds them: amounts by item, marks, and running sums.
-use Rattle.std.specs.Prelude.{◌≡◌, Bool, true, false, not, ◌&&◌, List, [], ℕ, ◌≤◌, leb, length, get_or}
+use Rattle.std.specs.Prelude.{◌≡◌, Option, None, Some, Bool, true, false, not, ◌&&◌, List, [], ℕ, ◌≤◌, leb, length, get_or}
 use Rattle.exchange.specs.Chosen.{at}
 use Rattle.exchange.specs.Choice.{End, fits, better}
 use Rattle.choice.specs.Promise.{numbered}
+use Rattle.choice.specs.declared.order_end.OrderEnd.{OrderEnd}
 
 -- whether an item is placed from the front or else from the back: from the front if a unit gives at least what it needs, from the back
 -- if it gives more. The front gives costs and needs values, the back the other way round
@@ -22,6 +23,15 @@ end_of front units needs gives added taken =
       taken = taken;
     }
 
+-- the same, as the code holds it
+abbrev pub end_at : OrderEnd → End
+end_at o = end_of o.front o.units.now o.needs.now o.gives.now o.added o.taken
+
+-- an end with another slack
+abbrev pub with_slack : End → ℕ → ℕ → End
+with_slack e added taken =
+    record { units = e.units; mine = e.mine; needs = e.needs; gives = e.gives; added = added; taken = taken }
+
 -- an end of which only the marked items are left
 abbrev pub left_of : End → List Bool → End
 left_of e marks =
@@ -33,6 +43,11 @@ left_of e marks =
       added = e.added;
       taken = e.taken;
     }
+
+-- the number of an item, or n for none
+abbrev pub item_or : ℕ → Option ℕ → ℕ
+item_or n None = n
+item_or n (Some i) = i
 
 -- item j may be next and is to be taken rather than i
 abbrev pub takes_over : End → ℕ → ℕ → Bool

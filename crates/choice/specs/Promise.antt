@@ -1,8 +1,7 @@
 -- What choosing an order for unit prices promises.
-use Rattle.std.specs.Prelude.{◌≡◌, Bool, true, false, List, ◌++◌, map, ℕ, suc, ◌-◌, ◌≤◌, length, replicate}
+use Rattle.std.specs.Prelude.{◌≡◌, Option, None, Some, List, ◌++◌, map, ℕ, suc, ◌-◌, ◌≤◌, length, replicate}
 use Rattle.exchange.specs.Chosen.{IsChosen}
 use Rattle.exchange.specs.declared.Sides.{Sides}
-use Rattle.choice.specs.declared.Chosen.{Chosen}
 
 -- eight order bytes for items counted from 0: "the order bytes list item numbers from 1 and then zeros"
 abbrev pub numbered : List ℕ → List ℕ
@@ -14,12 +13,11 @@ pub record ChosenItems (p : Sides) (units costs values order : List ℕ) : Type 
   pub chosen : IsChosen p units costs values items
   pub order_is : order ≡ numbered items
 
--- by whether an order is found: the bytes name it; else there is none, or there are more than eight items, and the bytes are zero
-abbrev pub Answers : Sides → List ℕ → List ℕ → List ℕ → Bool → List ℕ → Type 0
-Answers p units costs values true order = ChosenItems p units costs values order
-Answers p units costs values false order =
-    (order ≡ replicate 8 0) × (length units ≤ 8 → (items : List ℕ) → IsChosen p units costs values items → ⊥)
+-- where an order is found, the bytes name it; else there is none, or there are more than eight items
+abbrev pub Answers : Sides → List ℕ → List ℕ → List ℕ → Option (List ℕ) → Type 0
+Answers p units costs values (Some order) = ChosenItems p units costs values order
+Answers p units costs values None = length units ≤ 8 → (items : List ℕ) → IsChosen p units costs values items → ⊥
 
 -- the promise of choosing
-pub record Chooses (p : Sides) (units costs values : List ℕ) (r : Chosen) : Type 0 where
-  pub answers : Answers p units costs values r.found r.order
+pub record Chooses (p : Sides) (units costs values : List ℕ) (r : Option (List ℕ)) : Type 0 where
+  pub answers : Answers p units costs values r

@@ -26,31 +26,24 @@ pub struct Header {
     pub units: [u16; 8],
 }
 
-// Why a record or a contract is refused.
+// Why a record or a contract is refused. The numbers are those that the interfaces hand out.
 #[derive(Clone, Copy)]
 pub enum Refusal {
-    Truncated,
-    Map,
-    Value,
-    Limit,
-    Range,
-    Falling,
-    Trailing,
-    Short,
+    Truncated = 1,
+    Map = 2,
+    Value = 3,
+    Limit = 4,
+    Range = 5,
+    Falling = 6,
+    Trailing = 7,
+    Short = 8,
 }
 
 // The number of a refusal.
-pub fn number_of(e: Refusal) -> u32
-    ensures { (result ≡ number_of e) × (result < 9) }
-{
-    match e {
-        Refusal::Truncated => 1,
-        Refusal::Map => 2,
-        Refusal::Value => 3,
-        Refusal::Limit => 4,
-        Refusal::Range => 5,
-        Refusal::Falling => 6,
-        Refusal::Trailing => 7,
-        Refusal::Short => 8,
+impl From<Refusal> for u32 {
+    ghost from_gives = { λ e r. (r ≡ number_of e) × (r < 9) };
+
+    fn from(e: Refusal) -> u32 {
+        e as u32
     }
 }

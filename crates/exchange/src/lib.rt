@@ -15,14 +15,9 @@ pub struct Sides {
     pub buyer: u32,
 }
 
-// The answers of planning.
+// The deal, the place or an area does not fit.
 #[derive(Clone, Copy)]
-pub enum Planned {
-    Steps(usize),
-    Impossible,
-    // The deal or an area does not fit.
-    Unfit,
-}
+pub struct Unfit;
 
 // What a plan is to have fewest of. Moves are payments and deliveries together.
 #[derive(Clone, Copy)]
@@ -53,8 +48,8 @@ pub fn unclipped_upper(price: u32, cost_last: u32, cost_here: u32, supplier: u32
     ensures { result ≡ unclipped_upper_of price cost_last cost_here supplier }
 {
     minus(
-        price as u64 + cost_here as u64 + supplier as u64,
-        cost_last as u64,
+        u64::from(price) + u64::from(cost_here) + u64::from(supplier),
+        u64::from(cost_last),
     )
 }
 
@@ -63,8 +58,8 @@ pub fn unclipped_lower(price: u32, value_last: u32, value_here: u32, buyer: u32)
     ensures { result ≡ unclipped_lower_of price value_last value_here buyer }
 {
     minus(
-        price as u64 + value_here as u64,
-        value_last as u64 + buyer as u64,
+        u64::from(price) + u64::from(value_here),
+        u64::from(value_last) + u64::from(buyer),
     )
 }
 
@@ -73,7 +68,7 @@ pub fn upper(price: u32, cost_last: u32, cost_here: u32, supplier: u32) -> i64
     ensures { result ≡ upper_of price cost_last cost_here supplier }
 {
     let bound = unclipped_upper(price, cost_last, cost_here, supplier);
-    let most = price as i64;
+    let most = i64::from(price);
     if bound < most {
         return bound;
     }
@@ -100,7 +95,7 @@ pub fn most_paid(price: u32, cost_last: u32, cost_here: u32, supplier: u32) -> u
     if bound < 0 {
         return 0;
     }
-    if bound < price as i64 {
+    if bound < i64::from(price) {
         return bound as u32;
     }
     price
@@ -125,9 +120,9 @@ pub fn start_safe(
 ) -> bool
     ensures { result ≡ start_test price cost_last cost_first value_last value_first }
 {
-    let sum = price as u64;
-    if sum + (cost_first as u64) < cost_last as u64 {
+    let sum = u64::from(price);
+    if sum + u64::from(cost_first) < u64::from(cost_last) {
         return false;
     }
-    sum + value_first as u64 <= value_last as u64
+    sum + u64::from(value_first) <= u64::from(value_last)
 }

@@ -3,6 +3,7 @@ use mathlib.Core.Path.{◌≡◌, refl, sym, subst}
 use mathlib.Core.Bool.{true}
 use mathlib.Core.List.{List}
 use Prim.Native.Nat.{ℕ}
+use Rattle.std.specs.Prelude.{Result}
 use Rattle.contract.specs.Res.{Res, refused, ok, bind, test}
 use Rattle.contract.specs.Contract.{Contract, number_of}
 use Rattle.contract.specs.Parse.{parse}
@@ -13,13 +14,13 @@ use Rattle.exchange.specs.declared.Objective.{Objective}
 use Rattle.planning.specs.Answer.{answer_of}
 use Rattle.planning.specs.Areas.{Areas}
 use Rattle.planning.specs.Promise.{along_order, roomed, ahead, ahead_along, PlansFor}
-use Rattle.planning.specs.declared.Planned.{Planned}
+use Rattle.planning.specs.declared.PlanError.{PlanError}
 use Rattle.along.specs.Code.{PlansFound}
 use Rattle.fewest.specs.Code.{Refuses}
 
 module _ (bytes : List ℕ) where
   -- a ladder or unit prices are planned as for fewest steps, but for the objective
-  pub along_plans : (aim : Objective) (a a' : Areas) → ((k : Contract) → parse bytes ≡ ok k → along_order k.form ≡ true) → (r : Planned)
+  pub along_plans : (aim : Objective) (a a' : Areas) → ((k : Contract) → parse bytes ≡ ok k → along_order k.form ≡ true) → (r : Result ℕ PlanError)
       → PlansFound aim bytes r a a' → PlansFor aim (ahead_along bytes a) (answer_of r) a a'
   unfolding ahead ahead_along
   along_plans aim a a' along r h = subst (λ x. PlansFor aim x (answer_of r) a a') (sym (go (parse bytes) refl)) h.plans
@@ -30,15 +31,15 @@ module _ (bytes : List ℕ) where
       go (ok k) e = rw (along k e) refl
 
   -- a record that is refused
-  pub record_refused : (e : Refusal) → parse bytes ≡ refused (number_of e) → Refuses bytes (Planned.Refused e)
+  pub record_refused : (e : Refusal) → parse bytes ≡ refused (number_of e) → Refuses bytes e
   unfolding ahead_along
-  record_refused e q = record { number = number_of e; says = refl; ahead = λ a. rw q refl }
+  record_refused e q a = rw q refl
 
   -- a table
-  pub table_refused : (k : Contract) → parse bytes ≡ ok k → k.form ≡ Table → Refuses bytes (Planned.Refused Map)
+  pub table_refused : (k : Contract) → parse bytes ≡ ok k → k.form ≡ Table → Refuses bytes Map
   unfolding ahead_along
-  table_refused k q e = record { number = 2; says = refl; ahead = λ a. rw (q, e) refl }
+  table_refused k q e a = rw (q, e) refl
 
   -- what is refused leaves the areas
-  pub refused_plans : (aim : Objective) (a : Areas) (r : Planned) → Refuses bytes r → PlansFor aim (ahead_along bytes a) (answer_of r) a a
-  refused_plans aim a r h = rw (h.ahead a, h.says) (refl, refl)
+  pub refused_plans : (aim : Objective) (a : Areas) (e : Refusal) → Refuses bytes e → PlansFor aim (ahead_along bytes a) (refused (number_of e)) a a
+  refused_plans aim a e h = rw (h a) (refl, refl)

@@ -10,21 +10,19 @@ ghost use Rattle.fewest.specs.Code.{Refuses};
 
 use contract::Refusal;
 use exchange::Objective;
-use planning::Planned;
-use record::{Found, Reply};
+use planning::PlanError;
+use record::Found;
 
-// Refuses a table, which has no order of units to go along: by what is wrong with its record, or else by 2.
-fn refuse_table(bytes: &[u8]) -> Planned
+// The refusal of a table, which has no order of units to go along: what is wrong with its record, or else 2.
+fn refusal_of_table(bytes: &[u8]) -> Refusal
     requires { HeadFound Table bytes.now }
     ensures { Refuses bytes.now result }
 {
     let mut costs = [0u32; 128];
     let mut values = [0u32; 128];
-    let read = record::read(bytes, &mut costs, &mut values);
-    let reply = read.reply;
-    match reply {
-        Reply::Refused(e) => Planned::Refused(e),
-        Reply::Accepted => Planned::Refused(Refusal::Map),
+    match record::read(bytes, &mut costs, &mut values) {
+        Err(e) => e,
+        Ok(_) => Refusal::Map,
     }
 }
 
@@ -36,13 +34,12 @@ pub fn plan(
     places: &mut [u8],
     sums: &mut [u8],
     order: &mut [u8],
-) -> Planned
+) -> Result<usize, PlanError>
     ensures { PlansFor aim (ahead_along bytes.now (plan_areas places.old sums.old order.old)) (answer_of result) (plan_areas places.old sums.old order.old) (plan_areas places.new sums.new order.new) }
 {
-    match record::find(bytes) {
-        Found::Refused(e) => Planned::Refused(e),
+    match record::find(bytes)? {
         Found::Ladder(l) => along::plan_ladder(l, bytes, aim, places, sums, order),
         Found::UnitPrices => along::plan_prices(bytes, aim, places, sums, order),
-        Found::Table => refuse_table(bytes),
+        Found::Table => Err(PlanError::Refused(refusal_of_table(bytes))),
     }
 }

@@ -18,55 +18,44 @@ use Rattle.grid.proofs.UnitLaws.{packed_small, packed_lane}
 
 -- ---- the strides, from the last item to the first
 
--- the strides of the last i items are known; the item before them takes k rows a unit
-pub record Striding (us strides : List ℕ) (j i k : ℕ) : Type 0 where
+-- the strides of the last i items are known
+pub record Striding (us strides : List ℕ) (i : ℕ) : Type 0 where
   pub long : length strides ≡ 4
   pub some : 0 < i
-  pub items : i + j ≡ length us + 1
-  pub stride : k ≡ rows_of (drop j us)
-  pub first : get_or strides 0 0 ≡ 1
   pub known : (x : ℕ) → x < i → get_or strides x 0 ≡ rows_of (drop (length us - x) us)
 
-pub striding_start : (us strides : List ℕ) → length strides ≡ 4 → get_or strides 0 0 ≡ 1 → Striding us strides (length us) 1 1
+pub striding_start : (us strides : List ℕ) → length strides ≡ 4 → get_or strides 0 0 ≡ 1 → Striding us strides 1
 striding_start us strides l e =
     record {
       long = l;
       some = omega arith;
-      items = omega arith;
-      stride = sym (rows_end us);
-      first = e;
       known = λ x h.
           let z : x ≡ 0 = omega arith in
           let all : length us - 0 ≡ length us = omega arith in
           rw (z, all) (e ∙ sym (rows_end us));
     }
 
-module _ {us strides : List ℕ} {j i k n : ℕ} (small : Small us) (w : Striding us strides j i k) (more : 1 < j) (e : n ≡ get_or us (j - 1) 0 + 1) where
-  next_stride : k * n ≡ rows_of (drop (j - 1) us)
-  next_stride = rows_turn j k n us (omega arith) (omega (arith, w.items, w.some)) w.stride e
+module _ {us strides : List ℕ} {i n : ℕ} (small : Small us) (w : Striding us strides i) (more : i < length us) (e : n ≡ get_or us (length us - i) 0 + 1) where
+  next_stride : get_or strides (i - 1) 0 * n ≡ rows_of (drop (length us - i) us)
+  next_stride =
+      let at : length us - (i - 1) - 1 ≡ length us - i = omega (arith, w.some) in
+      rw at at (rows_turn (length us - (i - 1)) (get_or strides (i - 1) 0) n us (omega (arith, w.some)) (omega arith) (w.known (i - 1) (omega (arith, w.some))) (rw at e))
 
-  pub stride_le : k * n ≤ 128
-  stride_le = omega (arith, next_stride, rows_drop (j - 1) us, small.rows)
+  pub stride_le : get_or strides (i - 1) 0 * n ≤ 128
+  stride_le = omega (arith, next_stride, rows_drop (length us - i) us, small.rows)
 
-  pub striding_turn : Striding us (set strides i (k * n)) (j - 1) (i + 1) (k * n)
+  pub striding_turn : Striding us (set strides i (get_or strides (i - 1) 0 * n)) (i + 1)
   striding_turn =
-      record {
-        long = length-set strides i (k * n) ∙ w.long;
-        some = omega arith;
-        items = omega (arith, w.items);
-        stride = next_stride;
-        first = get_or-set_other strides i 0 (k * n) 0 (λ z. omega (arith, w.some)) ∙ w.first;
-        known = λ x h. go x h (ℕ_discrete x i);
-      }
+      record { long = length-set strides i (get_or strides (i - 1) 0 * n) ∙ w.long; some = omega arith; known = λ x h. go x h (ℕ_discrete x i) }
     where
-      go : (x : ℕ) → x < i + 1 → Dec (x ≡ i) → get_or (set strides i (k * n)) x 0 ≡ rows_of (drop (length us - x) us)
-      go x h (yes z) =
-          let at : length us - i ≡ j - 1 = omega (arith, w.items) in
-          rw (z, at) (get_or-set_same strides i (k * n) 0 (omega (arith, w.long, w.items, small.items)) ∙ next_stride)
-      go x h (no z) = get_or-set_other strides i x (k * n) 0 z ∙ w.known x (omega arith)
+      go : (x : ℕ) → x < i + 1 → Dec (x ≡ i) → get_or (set strides i (get_or strides (i - 1) 0 * n)) x 0 ≡ rows_of (drop (length us - x) us)
+      go x h (yes z) = rw z (get_or-set_same strides i (get_or strides (i - 1) 0 * n) 0 (omega (arith, w.long, small.items)) ∙ next_stride)
+      go x h (no z) = get_or-set_other strides i x (get_or strides (i - 1) 0 * n) 0 z ∙ w.known x (omega arith)
 
-pub striding_done : {us strides : List ℕ} {j i k : ℕ} → Striding us strides j i k → j ≤ 1 → Strides us strides
-striding_done w h = record { first = w.first; stride_at = λ x l. w.known x (omega (arith, w.items)) }
+pub striding_done : {us strides : List ℕ} {i : ℕ} → Striding us strides i → length us ≤ i → Strides us strides
+striding_done {us} w h =
+    let all : length us - 0 ≡ length us = omega arith in
+    record { first = w.known 0 w.some ∙ rw all (rows_end us); stride_at = λ x l. w.known x (omega arith) }
 
 -- ---- item by item
 

@@ -25,13 +25,12 @@ and_assoc true b c = refl
 and_assoc false b c = refl
 
 -- one row more
-pub all_turn : (test : ℕ → Bool) (from r : ℕ) (a b : Bool) {b' : Bool} → from ≤ r → b ≡ (a && all_rows test from (r - from)) → b' ≡ (b && test r)
-    → b' ≡ (a && all_rows test from (r + 1 - from))
+pub all_turn : (test : ℕ → Bool) (from r : ℕ) (b : Bool) {b' : Bool} → from ≤ r → b ≡ all_rows test from (r - from) → b' ≡ (b && test r) → b' ≡ all_rows test from (r + 1 - from)
 unfolding all_rows
-all_turn test from r a b h e f =
+all_turn test from r b h e f =
     let n : r + 1 - from ≡ suc (r - from) = omega arith in
     let at : from + (r - from) ≡ r = omega arith in
-    rw (n, at) (f ∙ rw e (and_assoc a (all_rows test from (r - from)) (test r)))
+    rw (n, at) (f ∙ rw e)
 
 -- rows that rise so far, and further ones by a test that says whether they do
 pub rising_more : (us cells : List ℕ) (test : ℕ → Bool) (from n : ℕ)

@@ -3,7 +3,7 @@ use mathlib.Core.Path.{◌≡◌, refl, sym, ap, ap₂, ◌∙◌}
 use mathlib.Core.Bool.{Bool, true, false, cond, ◌&&◌, and-eq-true_iff}
 use mathlib.Core.List.{List, [], ◌∷◌, ◌++◌}
 use Prim.Native.Nat.{ℕ, zero, suc, ◌+◌, ◌-◌, ◌*◌, ◌/◌, ◌%◌, ◌≤◌, ◌<◌, max}
-use native.Mathlib.Nat.{add_assoc, div-add-mod, mod-lt, mod-eq_of_lt, mul-add, mul-add-mod_self_left, mul_assoc, mul-one, mul-suc, mul-le-mul_left, div-eq_of_lt, mod-le, le_trans, le-mul_of_pos_right, mul-pos}
+use native.Mathlib.Nat.{add_assoc, div-add-mod, mod-lt, mod-eq_of_lt, mul-add, mul-add-mod_self_left, mul_assoc, mul-one, mul-suc, mul-le-mul_left, div-eq_of_lt, mod-le, le_trans, le-mul_of_pos_right, mul_comm, mul_right_comm, mul-pos}
 use native.Mathlib.Numerals.{add-one}
 use native.Mathlib.Decide.{dec_lt}
 use native.Mathlib.Omega.{arith}
@@ -11,6 +11,7 @@ use borrow.Author.Tests.{ltb-true, leb-true}
 use lib.Dec.{ltb, leb}
 use lib.ListN.{length, get_or, take, drop, get_or-append}
 use lib.Seq.{drop-cons, drop-length}
+use Rattle.std.proofs.lemmas.List.{take_more}
 use Rattle.grid.specs.Rows.{rows_of, less_one, largest_below, rising}
 
 -- ---- rounds of k * n rows
@@ -47,6 +48,19 @@ unfolding rows_of
 rows_split zero us = sym (mul-one (rows_of us))
 rows_split (suc j) [] = refl
 rows_split (suc j) (u ∷ us) = rw (rows_split j us) (mul_assoc (rows_of (drop j us)) (rows_of (take j us)) (u + 1))
+
+-- the first items have no more rows than all
+pub rows_take : (j : ℕ) (us : List ℕ) → rows_of (take j us) ≤ rows_of us
+rows_take j us = rw (rows_split j us, mul_comm) (le-mul_of_pos_right (rows_of (take j us)) (rows_pos (drop j us)))
+
+-- one item more, from the front
+rows_snoc : (us : List ℕ) (u : ℕ) → rows_of (us ++ (u ∷ [])) ≡ rows_of us * (u + 1)
+unfolding rows_of
+rows_snoc [] u = refl
+rows_snoc (x ∷ us) u = rw (rows_snoc us u) (mul_right_comm (rows_of us) (u + 1) (x + 1))
+
+pub rows_take_more : (j : ℕ) (us : List ℕ) → j < length us → rows_of (take (j + 1) us) ≡ rows_of (take j us) * (get_or us j 0 + 1)
+rows_take_more j us h = rw (take_more us j 0 h) (rows_snoc (take j us) (get_or us j 0))
 
 -- one item more, from the end
 pub rows_cons : (j : ℕ) (us : List ℕ) → j < length us → rows_of (drop j us) ≡ rows_of (drop (j + 1) us) * (get_or us j 0 + 1)
@@ -110,9 +124,6 @@ rising_ext us xs ys zero h = refl
 rising_ext us xs ys (suc n) h =
     ap₂ ◌&&◌ (rising_ext us xs ys n (λ i l. h i (omega arith)))
     (ap₂ leb (largest_ext us xs ys n (λ i l. h i (omega arith))) (h n (omega arith)))
-
-pub rising_front : (us xs ys : List ℕ) (n : ℕ) → n ≤ length xs → rising us (xs ++ ys) n ≡ rising us xs n
-rising_front us xs ys n h = rising_ext us (xs ++ ys) xs n (λ i l. get_or-append xs ys 0 i (omega arith))
 
 -- rising so far, and the last cell is not below the largest one unit below
 pub rising_last : (us cells : List ℕ) (r : ℕ) → rising us cells (suc r) ≡ true → (rising us cells r ≡ true) × (largest_below us cells r ≤ get_or cells r 0)

@@ -3,33 +3,19 @@ ghost use Rattle.std.specs.Prelude.{◌≡◌, cond, ◌-◌, max, ltb, get_or};
 ghost use Rattle.grid.specs.Units.{Small};
 ghost use Rattle.grid.specs.Below.{Strides, below_by, Under, RowAt};
 
-use super::wide;
-
 // How many rows each item takes a unit, the last item first.
 pub fn strides_of(units: &[u16]) -> [usize; 4]
     requires { Small units.now }
     ensures { Strides units.now result }
 {
     let mut strides = [1usize; 4];
-    let mut j = units.len();
-    let mut i: usize = 1;
-    let mut k: usize = 1;
-    while 1 < j {
-        j -= 1;
-        k = k * (wide(units[j]) + 1);
-        strides[i] = k;
-        i += 1;
+    for i in 1..units.len() {
+        strides[i] = strides[i - 1] * (usize::from(units[units.len() - i]) + 1);
     }
     strides
 }
 
-fn larger(a: u32, b: u32) -> u32
-    ensures { result ≡ max a b }
-{
-    if a < b { b } else { a }
-}
-
-// The cell with one unit less of an item, and 0 for a row without a unit of it.
+// The cell with one unit less of an item, and 0 for a row without a unit of it. Stays a number: `less_one` in specs/ says 0 there.
 pub(crate) fn if_any(unit: u32, cell: u32) -> u32
     ensures { result ≡ cond (ltb 0 unit) cell 0 }
 {
@@ -41,7 +27,7 @@ fn item_below(b: u32, cells: &[u32], r: usize, k: usize, unit: u32) -> u32
     requires { Under cells.now r k unit }
     ensures { result ≡ max b (cond (ltb 0 unit) (get_or cells.now (r - k) 0) 0) }
 {
-    if 0 < unit { larger(b, cells[r - k]) } else { b }
+    if 0 < unit { cells[r - k].max(b) } else { b }
 }
 
 // The largest cell among the rows with one unit less of one item, by the units in row r's word. The last item's is the cell of the row

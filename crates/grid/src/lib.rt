@@ -17,92 +17,44 @@ pub use below::strides_of;
 pub use rise::all_rise;
 pub use units::all_units;
 
+// That units and cells are a table, `Sized`, stays a clause: the cells are lent to write, lent to read, or bytes, so no one type holds them.
+
 // A table has at most this many rows.
 pub const MAX_ROWS: usize = 128;
 
-// The number of rows, and 0 for more than a table may have.
-pub fn row_count(units: &[u16]) -> usize
-    ensures { result ≡ cond (leb (rows_of units.now) 128) (rows_of units.now) 0 }
+// The number of rows, where a table may have so many.
+pub fn row_count(units: &[u16]) -> Option<usize>
+    ensures { result ≡ cond (leb (rows_of units.now) 128) (Some (rows_of units.now)) None }
 {
-    let mut j = units.len();
     let mut rows: usize = 1;
-    while 0 < j {
-        j -= 1;
-        rows = rows * (wide(units[j]) + 1);
+    for &u in units {
+        rows *= usize::from(u) + 1;
         if MAX_ROWS < rows {
-            return 0;
+            return None;
         }
     }
-    rows
-}
-
-fn wide(x: u16) -> usize
-    ensures { (result ≡ x) × (result < 65536) }
-{
-    x as usize
+    Some(rows)
 }
 
 // Whether bit r of a row map stands; past the end none does.
 pub fn stands(map: &[u8], r: usize) -> bool
     ensures { result ≡ stands map.now r }
 {
-    let i = r / 8;
-    if map.len() <= i {
-        return false;
-    }
-    let k = r % 8;
-    let m = byte(map[i]);
-    (m >> k) % 2 == 1
+    bits_from(map, r) % 2 == 1
 }
 
 // The bits of row n's byte from row n on; past the end none stands.
 pub fn bits_from(map: &[u8], n: usize) -> usize
     ensures { result ≡ bits_from map.now n }
 {
-    let i = n / 8;
-    if map.len() <= i {
-        return 0;
-    }
-    let k = n % 8;
-    let m = byte(map[i]);
-    m >> k
-}
-
-fn byte(x: u8) -> usize
-    ensures { (result ≡ x) × (result < 256) }
-{
-    x as usize
-}
-
-// A cell, and how many given cells are used after it.
-#[derive(Clone, Copy)]
-struct Cell {
-    value: u32,
-    used: usize,
-}
-
-// The cell of row r: the next given one where its bit stands, else the largest below.
-fn cell_at(map: &[u8], given: &[u8], below: u32, used: usize, r: usize) -> Cell
-    requires { used + 1 < 2 ^ 64 }
-    ensures { (result.value ≡ cond (stands map.now r) (get_or (entries 4 given.now) used 0) below) × (result.used ≡ used + bit_at map.now r) }
-{
-    if stands(map, r) {
-        Cell {
-            value: area::entry_u32(given, used),
-            used: used + 1,
-        }
-    } else {
-        Cell { value: below, used }
+    match map.get(n / 8) {
+        Some(&byte) => usize::from(byte) >> (n % 8),
+        None => 0,
     }
 }
 
-fn still_rising(rises: bool, below: u32, v: u32) -> bool
-    ensures { result ≡ (rises && leb below v) }
-{
-    if below <= v { rises } else { false }
-}
-
-// Fills a table's cells row by row. The cell before is kept at hand: the next row would else wait for its store.
+// Fills a table's cells row by row: the next given one where the row's bit stands, else the largest below. The cell before is kept at hand: the
+// next row would else wait for its store.
 fn fill_rows(units: &[u16], words: &[u32; 128], map: &[u8], given: &[u8], cells: &mut [u32]) -> bool
     requires { Small units.now × RowUnits units.now words.now (length cells.old) }
     ensures { Fills units.now map.now (entries 4 given.now) cells.old result cells.new }
@@ -111,15 +63,16 @@ fn fill_rows(units: &[u16], words: &[u32; 128], map: &[u8], given: &[u8], cells:
     let mut used: usize = 0;
     let mut last: u32 = 0;
     let mut rises = true;
-    let mut r: usize = 0;
-    while r < cells.len() {
+    for r in 0..cells.len() {
         let below = largest_below(strides, cells, r, words[r], last);
-        let c = cell_at(map, given, below, used, r);
-        cells[r] = c.value;
-        rises = still_rising(rises, below, c.value);
-        used = c.used;
-        last = c.value;
-        r += 1;
+        if stands(map, r) {
+            last = area::entry(given, used);
+            used += 1;
+        } else {
+            last = below;
+        }
+        cells[r] = last;
+        rises &= below <= last;
     }
     rises
 }
@@ -133,7 +86,8 @@ pub fn fill(units: &[u16], map: &[u8], given: &[u8], cells: &mut [u32]) -> bool
     fill_rows(units, &words, map, given, cells)
 }
 
-// The map of the cells that have to be given, and whether none is below that of a row with one unit less of one item.
+// The map of the cells that have to be given, and whether none is below that of a row with one unit less of one item. Stays a struct: `mark`
+// promises the map of falling cells too, which an Option would leave out.
 #[derive(Clone, Copy)]
 pub struct Marks {
     pub rises: bool,
@@ -150,29 +104,27 @@ pub fn mark(units: &[u16], cells: &[u32]) -> Marks
     let mut map = [0u8; 16];
     let mut rises = true;
     let mut last: u32 = 0;
-    let mut r: usize = 0;
-    while r < cells.len() {
+    for r in 0..cells.len() {
         let below = largest_below(strides, cells, r, words[r], last);
-        let v = cells[r];
-        mark_row(&mut map, r, v != below);
-        rises = still_rising(rises, below, v);
-        last = v;
-        r += 1;
+        let cell = cells[r];
+        if cell != below {
+            mark_row(&mut map, r);
+        }
+        rises &= below <= cell;
+        last = cell;
     }
     Marks { rises, map }
 }
 
-// Lets bit r of a map stand, if it is to stand and the map has a row r.
-fn mark_row(map: &mut [u8], r: usize, stand: bool)
+// Lets bit r of a map stand, if the map has a row r.
+fn mark_row(map: &mut [u8], r: usize)
     requires { bits_from map.old r ≡ 0 }
-    ensures { map.new ≡ cond stand (marked map.old r) map.old }
+    ensures { map.new ≡ marked map.old r }
 {
-    if stand {
-        let i = r / 8;
-        if i < map.len() {
-            let k = r % 8;
-            map[i] = with_bit(map[i], k);
-        }
+    let i = r / 8;
+    if i < map.len() {
+        let k = r % 8;
+        map[i] = with_bit(map[i], k);
     }
 }
 

@@ -3,17 +3,13 @@ ghost use Rattle.grid.specs.Rows.{rows_of};
 ghost use Rattle.grid.specs.Units.{Small, RowUnits};
 ghost use Rattle.grid.specs.Adding.{Numbered, Addable, Added};
 
-use super::wide;
-
 // The number of each row: as long as no other item has a unit, the units of the last item.
 fn row_numbers() -> [u32; 128]
     ensures { Numbered result 128 }
 {
     let mut held = [0u32; 128];
-    let mut r: usize = 0;
-    while r < 128 {
-        held[r] = r as u32;
-        r += 1;
+    for r in 0u8..128 {
+        held[usize::from(r)] = u32::from(r);
     }
     held
 }
@@ -23,10 +19,8 @@ fn add_item(held: &mut [u32], stride: usize, end: usize, one: u32)
     requires { Addable held.old stride end one }
     ensures { Added stride one held.old held.new end }
 {
-    let mut r = stride;
-    while r < end {
+    for r in stride..end {
         held[r] = held[r - stride] + one;
-        r += 1;
     }
 }
 
@@ -36,17 +30,15 @@ pub fn all_units(units: &[u16]) -> [u32; 128]
     ensures { RowUnits units.now result (rows_of units.now) }
 {
     let mut held = row_numbers();
-    let mut j = units.len();
-    if j == 0 {
+    let n = units.len();
+    if n == 0 {
         return held;
     }
-    j -= 1;
-    let mut stride = wide(units[j]) + 1;
+    let mut stride = usize::from(units[n - 1]) + 1;
     let mut one: u32 = 1;
-    while 0 < j {
-        j -= 1;
-        one = one * 256;
-        let end = stride * (wide(units[j]) + 1);
+    for j in (0..n - 1).rev() {
+        one *= 256;
+        let end = stride * (usize::from(units[j]) + 1);
         add_item(&mut held, stride, end, one);
         stride = end;
     }

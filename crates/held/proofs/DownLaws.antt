@@ -1,7 +1,8 @@
 -- The way down through the rows that a row holds: from one that can pay to the next. Assumes nothing.
 use mathlib.Core.Path.{◌≡◌, refl, sym, ap, subst, ◌∙◌}
-use mathlib.Core.Bool.{Bool, true, false, ◌&&◌}
+use mathlib.Core.Bool.{Bool, true, false, ◌&&◌, and_assoc}
 use mathlib.Core.List.{List, [], ◌∷◌}
+use Rattle.std.proofs.Common.{Option, None, Some, is_some, ◌⊎◌, inl, inr}
 use Prim.Native.Nat.{ℕ, zero, suc, ◌+◌, ◌-◌, ◌*◌, ◌/◌, ◌%◌, ◌^◌, ◌≤◌, ◌<◌}
 use native.Mathlib.Nat.{add-zero, div-add-mod', div-div-eq-div-mul, div-eq_of_lt, div-mul-le_self, div-one, mod-eq_of_lt, mod-le, mod-lt, mod-mod, mod-one, mul-add-div_right, mul-add-mod_self_right, mul_assoc, mul_comm, mul-le-mul_right, mul-one}
 use native.Mathlib.Decide.{dec_lt, ℕ_discrete}
@@ -23,10 +24,6 @@ use Rattle.held.proofs.HoldLaws.{holds_cons}
 
 -- ---- rows by the items before one, that item, and those after it
 
-and_assoc : (x y z : Bool) → (x && (y && z)) ≡ ((x && y) && z)
-and_assoc true y z = refl
-and_assoc false y z = refl
-
 rows_split : (j : ℕ) (us : List ℕ) → rows_of us ≡ rows_of (drop j us) * rows_of (take j us)
 unfolding rows_of
 rows_split zero us = sym (mul-one (rows_of us))
@@ -42,7 +39,7 @@ holds_split (suc j) (u ∷ us) a b =
     let R = rows_of (drop j us) in
     let m = rows_of (take j us) in
     rw (rows_split j us, ← div-div-eq-div-mul a R m, ← div-div-eq-div-mul b R m, holds_split j us a b)
-    (and_assoc (leb (a / R / m % (u + 1)) (b / R / m % (u + 1))) (holds_row (take j us) (a / R) (b / R)) (holds_row (drop j us) a b))
+    (sym (and_assoc (leb (a / R / m % (u + 1)) (b / R / m % (u + 1))) (holds_row (take j us) (a / R) (b / R)) (holds_row (drop j us) a b)))
 
 by_digit : (m n q d : ℕ) → m ≡ q * n + d → d < n → (m / n ≡ q) × (m % n ≡ d)
 by_digit m n q d e h =
@@ -169,12 +166,12 @@ descending_start us caps b need a =
 
 -- all items are tried
 descending_none : (us caps : List ℕ) (b need a j stride row : ℕ) → Descending us caps b need a j stride row → j ≡ 0 → a < rows_of us
-    → Down us caps b need a 0
+    → Down us caps b need a None
 descending_none us caps b need a j stride row h z l =
     let all : stride ≡ rows_of us = h.stride_is ∙ rw z in
     record {
       lower = omega arith;
-      opens = λ m. absurd (omega arith);
+      opens = tt;
       passed = λ r m k o.
           let e : r / stride ≡ 0 = div-eq_of_lt (omega arith) in
           let f : a / stride ≡ 0 = div-eq_of_lt (omega arith) in
@@ -229,14 +226,11 @@ module _ {us caps : List ℕ} {b need a j stride row : ℕ} (h : Descending us c
       less_back = rw (← stride_at) less_is.1.1
 
       -- it is the next row down, where it can pay
-      descending_found : T (holds_row us a b) → need ≤ get_or caps (row - stride) 0 → Down us caps b need a (row - stride + 1)
+      descending_found : T (holds_row us a b) → need ≤ get_or caps (row - stride) 0 → Down us caps b need a (Some (row - stride))
       descending_found t pays =
-          let back : row - stride + 1 - 1 ≡ row - stride = omega arith in
           record {
             lower = omega (arith, less_below);
-            opens = λ _.
-                rw back
-                (record { held = less_held us (j - 1) before a b (row - stride) (omega (arith, e)) less_divided less_back t; pays = pays });
+            opens = record { held = less_held us (j - 1) before a b (row - stride) (omega (arith, e)) less_divided less_back t; pays = pays };
             passed = λ r l m o. go r l m o (ℕ_discrete (r / stride) (a / stride));
           }
         where
@@ -309,6 +303,11 @@ module _ {us caps : List ℕ} {b need a j stride row : ℕ} (h : Descending us c
 
 -- ---- the items as the code tries them: i counts those that are tried
 
+poor_of : {caps : List ℕ} {row stride has need : ℕ} {o : Option ℕ} → OneLess caps row stride has need o → is_some o ≡ false
+    → 0 < has → get_or caps (row - stride) 0 < need
+poor_of {o = None} tried e = tried.poor
+poor_of {o = Some r} tried e = cc
+
 pub first_byte : (p : ℕ) → p % 256 ≡ p / 256 ^ 0 % 256
 first_byte p = rw (div-one p)
 
@@ -340,32 +339,39 @@ module _ {us strides caps : List ℕ} {a b less more need : ℕ}
       λ u. let l = some_item u in omega (arith, less_below h (omega arith) has (has_is l) u, pre.5, pre.0.rows),
     )
 
-    module _ {k : ℕ} (tried : OneLess caps row stride has need k) where
-      pub level_found : 0 < k → Down us caps b need a k
-      level_found p =
-          let x = tried.found p in
+    module _ {o : Option ℕ} (tried : OneLess caps row stride has need o) where
+      found_row : (r : ℕ) → o ≡ Some r → Down us caps b need a o
+      found_row r q =
+          let x = rw q at tried.found in
           let l = some_item x.0 in
-          rw x.2 (descending_found h (omega arith) has (has_is l) x.0 pre.7.held x.1)
+          rw (q, x.2) (descending_found h (omega arith) has (has_is l) x.0 pre.7.held (rw x.2 at x.1))
 
-      -- the last item to try
-      pub level_none : k ≤ 0 → length us < i + 2 → Down us caps b need a 0
-      level_none z last = go (dec_lt i (length us))
+      none_left : o ≡ None → length us < i + 2 → Down us caps b need a o
+      none_left q last = rw q (go (dec_lt i (length us)))
         where
-          go : Dec (i < length us) → Down us caps b need a 0
+          go : Dec (i < length us) → Down us caps b need a None
           go (yes l) =
               descending_none _ _ _ _ _ _ _ _
-              (descending_next h (omega arith) has (has_is l) pre.7.held (unit_of us (length us - i - 1) b) refl _ _ refl refl pre.4 pre.5 (tried.poor z))
+              (descending_next h (omega arith) has (has_is l) pre.7.held (unit_of us (length us - i - 1) b) refl _ _ refl refl pre.4 pre.5 (rw q at tried.poor))
               (omega arith) pre.5
           go (no l) = descending_none _ _ _ _ _ _ _ _ h (omega arith) pre.5
 
-      pub level_last : length us < i + 2 → Down us caps b need a k
-      level_last last = go (dec_lt 0 k)
+      -- the last item to try
+      pub level_last : length us < i + 2 → Down us caps b need a o
+      level_last last = go o refl
         where
-          go : Dec (0 < k) → Down us caps b need a k
-          go (yes p) = level_found p
-          go (no p) =
-              let z : k ≡ 0 = omega arith in
-              rw z (level_none (omega arith) last)
+          go : (x : Option ℕ) → o ≡ x → Down us caps b need a o
+          go None q = none_left q last
+          go (Some r) q = found_row r q
+
+      -- a row is found, or there is no item more
+      pub level_stop : {t : Bool} → t ≡ is_some o → (t ≡ true) ⊎ ((t ≡ false) × (length us < i + 2)) → Down us caps b need a o
+      level_stop {t} q f = go o refl f
+        where
+          go : (x : Option ℕ) → o ≡ x → (t ≡ true) ⊎ ((t ≡ false) × (length us < i + 2)) → Down us caps b need a o
+          go (Some r) e g = found_row r e
+          go None e (inl g) = cc
+          go None e (inr g) = none_left e g.1
 
     -- there is an item more
     module _ {full : ℕ} (further : i + 1 < length us) (f : full ≡ more / 256 ^ i % 256) where
@@ -386,8 +392,14 @@ module _ {us strides caps : List ℕ} {a b less more need : ℕ}
         omega (arith, row_high h (omega arith) has own pre.7.held full full_is _ _ refl stride_known, pre.5, pre.6, pre.0.rows),
       )
 
-      pub level_next : {k row' : ℕ} → OneLess caps row stride has need k → k ≤ 0 → row' ≡ row + (full - has) * stride
+      pub level_next : {o : Option ℕ} {t : Bool} {row' : ℕ} → OneLess caps row stride has need o → t ≡ is_some o → t ≡ false
+          → row' ≡ row + (full - has) * stride
           → Descending us caps b need a (length us - (i + 1)) (get_or strides (i + 1) 0) row'
-      level_next tried z next =
+      level_next {o} tried q z next =
           let s : length us - (i + 1) ≡ length us - i - 1 = omega arith in
-          rw s (descending_next h (omega arith) has own pre.7.held full full_is _ _ next stride_known pre.4 pre.5 (tried.poor z))
+          rw s (descending_next h (omega arith) has own pre.7.held full full_is _ _ next stride_known pre.4 pre.5 (poor_of tried (sym q ∙ z)))
+
+  -- the first item is tried, and the units of row b put back
+  pub level_one : {o : Option ℕ} {t : Bool} {row : ℕ} → 1 < length us → OneLess caps a 1 (less % 256) need o → t ≡ is_some o → t ≡ false
+      → row ≡ a + (more % 256 - less % 256) * 1 → Descending us caps b need a (length us - 1) (get_or strides 1 0) row
+  level_one further tried q z next = level_next 0 (descending_start us caps b need a) (first_byte less) further (first_byte more) tried q z next

@@ -2,11 +2,13 @@
 use mathlib.Core.Path.{◌≡◌, refl, sym, ap, ◌∙◌}
 use mathlib.Core.Bool.{Bool, true, false, ◌&&◌}
 use mathlib.Core.List.{List, [], ◌∷◌}
-use Prim.Native.Nat.{ℕ, zero, suc, ◌+◌, ◌-◌, ◌*◌, ◌/◌, ◌%◌, ◌^◌, ◌≤◌, ◌<◌}
-use native.Mathlib.Nat.{add-mul-div_right, add-mul-mod_self_right, div-lt_iff_lt-mul, mod-eq_of_lt, mul_assoc, pow-suc}
+use Prim.Native.Nat.{ℕ, zero, suc, ◌+◌, ◌-◌, ◌*◌, ◌/◌, ◌%◌, ◌^◌, ◌<◌}
+use native.Mathlib.Nat.{add-mul-div_right, div-div-eq-div-mul, add-mul-mod_self_right, div-lt_iff_lt-mul, mod-eq_of_lt, mul_assoc, pow-suc}
 use native.Mathlib.Omega.{arith}
-use borrow.Author.Tests.{le-leb, lt-leb}
+use borrow.Author.Tests.{le-leb}
 use lib.Dec.{leb}
+use Rattle.std.specs.Int.{w32, to_le_bytes}
+use Rattle.std.specs.List.{list_all, zip}
 use lib.ListN.{length}
 use Rattle.grid.specs.Rows.{rows_of}
 use Rattle.grid.specs.Units.{packed, Small}
@@ -71,23 +73,10 @@ word_row (u ∷ us) a b s =
     (omega (arith, units_lt u us a s)) (omega (arith, units_lt u us b s))
     ∙ rw (word_row us a b t)
 
--- the lowest byte is compared first
-module _ (n p q : ℕ) (some : 0 < n) where
-  lowest : holds_word n p q ≡ (leb (p % 256) (q % 256) && holds_word (n - 1) (p / 256) (q / 256))
-  unfolding holds_word
-  lowest = let e : n ≡ suc (n - 1) = omega arith in ap (λ (k : ℕ). holds_word k p q) e
-
-  pub word_fails : q % 256 < p % 256 → holds_word n p q ≡ false
-  word_fails h = lowest ∙ rw (lt-leb (p % 256) (q % 256) h)
-
-  pub word_next : p % 256 ≤ q % 256 → holds_word (n - 1) (p / 256) (q / 256) ≡ holds_word n p q
-  word_next h = sym (lowest ∙ rw (le-leb (p % 256) (q % 256) h))
-
-pub word_end : (n p q : ℕ) → n ≤ 0 → holds_word n p q ≡ true
+-- the bytes of two words, each with its own
+pub bytes_held : (x y : ℕ) (xs ys : List ℕ) → xs ≡ to_le_bytes w32 x → ys ≡ to_le_bytes w32 y → list_all (λ p. leb p.0 p.1) (zip xs ys) ≡ holds_word 4 x y
 unfolding holds_word
-word_end n p q h =
-    let z : n ≡ 0 = omega arith in
-    ap (λ (k : ℕ). holds_word k p q) z
+bytes_held x y xs ys e f = rw (e, f) (simp div-div-eq-div-mul)
 
 -- the words of two rows compare the rows
 pub held_word : (us : List ℕ) (a b : ℕ) → Small us → holds_word 4 (packed us a) (packed us b) ≡ holds_row us a b

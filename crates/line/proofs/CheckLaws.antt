@@ -1,4 +1,5 @@
 -- A brought plan along segments, followed step by step. Assumes nothing.
+use Rattle.std.proofs.Common.{Ok}
 use mathlib.Core.Path.{◌≡◌, refl, sym, ap, ◌∙◌, subst}
 use mathlib.Core.Logic.{◌↔◌}
 use mathlib.Core.Bool.{Bool, true, false, not, ◌&&◌, and-eq-true_iff}
@@ -25,7 +26,7 @@ use Rattle.exchange.proofs.GivenOrder.Run.{state_eq}
 use Rattle.exchange.proofs.PlanInLaws.{entry_in, plan_none, plan_step, plan_next, plan_end}
 use Rattle.exchange.proofs.TestLaws.{within_test↔, step↔}
 use Rattle.line.specs.Segments.{spread, fits, deal_along}
-use Rattle.line.specs.CheckPromise.{holds_count}
+use Rattle.line.specs.CheckPromise.{holds_count, Checks}
 use Rattle.line.specs.Code.{sum_to, Fit, Known, At, There, origin}
 use Rattle.line.specs.CheckCode.{Ahead, Brought, Judges, cursor_bounds, passes}
 use Rattle.line.specs.declared.Cursor.{Cursor}
@@ -221,9 +222,11 @@ module _ (us cs vs : List ℕ) (n : ℕ) (places sums : List ℕ) where
   pub short_sums : {m : ℕ} → m ≡ length (entries 4 sums) → m < n → holds_count us cs vs n places sums ≡ false
   short_sums {m} e h = not_so _ (λ q. let r = (holds↔.0 q).2 in omega arith)
 
-  pub brought : (t : Totals) → Known us cs vs t → {m l : ℕ} → m ≡ length (entries 2 places) → n ≤ m → l ≡ length (entries 4 sums) → n ≤ l
-      → Brought us cs vs t n places sums
-  brought t k {m} {l} e h f g = record { known = k; places_hold = omega arith; sums_hold = omega arith }
+  pub brought : (t : Totals) → Known us cs vs t → n ≤ length (entries 2 places) → n ≤ length (entries 4 sums) → Brought us cs vs t n places sums
+  brought t k h f = record { known = k; places_hold = h; sums_hold = f }
 
-  pub brought_holds : (t : Totals) → Brought us cs vs t n places sums → holds_count us cs vs n places sums ≡ true
-  brought_holds t b = holds↔.1 (b.known.fit, b.places_hold, b.sums_hold)
+  -- the answer that goes by the test of the steps
+  pub checked : (s : Sides) (t : Totals) → Known us cs vs t → n ≤ length (entries 2 places) → n ≤ length (entries 4 sums) → (r : Bool)
+      → Judges (deal_along s us cs vs) (plan_in n places sums) r → Checks s us cs vs n places sums (Ok r)
+  checked s t k hp hs true j = (holds↔.1 (k.fit, hp, hs), j.yes refl)
+  checked s t k hp hs false j = (holds↔.1 (k.fit, hp, hs), j.no refl)

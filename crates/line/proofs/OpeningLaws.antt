@@ -14,7 +14,10 @@ use Rattle.exchange.specs.declared.Objective.{Objective}
 use Rattle.exchange.specs.declared.Sides.{Sides}
 use Rattle.exchange.proofs.GivenOrder.Run.{state_eq}
 use Rattle.line.specs.Segments.{deal_along}
-use Rattle.line.specs.Code.{Known, At, Reached, Delivered, Begins, Sets, Begun, Counts, Ready, origin, state_of}
+use Rattle.line.specs.Code.{Known, At, Reached, Delivered, Begins, Sets, Begun, Counts, origin, state_of}
+use Rattle.line.specs.Code as code
+use Rattle.line.specs.Course as course
+use Rattle.line.specs.Course.{Course, Room}
 use Rattle.line.specs.OpeningCode.{Leads, Chosen, at_start, after_payment}
 use Rattle.line.specs.declared.Cursor.{Cursor}
 use Rattle.line.specs.declared.Totals.{Totals}
@@ -104,13 +107,10 @@ module _ (s : Sides) (us cs vs : List ℕ) where
       fewer_giving h =
           chosen Objective.Moves _ other bg (takes_delivery (deal_along s us cs vs) (rising s us cs vs) (λ a b. refl) q m n paying giving h)
 
-  -- the first step leaves the areas as long
-  pub ready_kept : {t : Totals} {places sums places' sums' : List ℕ} {f : State} {n : ℕ} → Ready s us cs vs t places sums
-      → Begun f n places sums places' sums' → Ready s us cs vs t places' sums'
-  ready_kept {places = places} {sums = sums} {places' = places'} {sums' = sums'} r b =
-      record {
-        known = r.known;
-        possible = r.possible;
-        places_room = omega (arith, r.places_room, entries_same 2 places places' b.written.places_hold.length_kept);
-        sums_room = omega (arith, r.sums_room, entries_same 4 sums sums' b.written.sums_hold.length_kept);
-      }
+-- the first step leaves the areas as long
+pub room_kept : (x : Course) → course.Known x → {places sums places' sums' : List ℕ} {f : State} {n : ℕ} → Room x places sums
+    → Begun f n places sums places' sums' → code.Room 2 x.units x.costs places' × code.Room 4 x.units x.costs sums'
+room_kept x k {places} {sums} {places'} {sums'} r b = (
+  omega (arith, r.places_room, k.units_are, entries_same 2 places places' b.written.places_hold.length_kept),
+  omega (arith, r.sums_room, k.units_are, entries_same 4 sums sums' b.written.sums_hold.length_kept),
+)

@@ -1,5 +1,5 @@
 -- The bounds of a place along segments. Assumes nothing.
-use mathlib.Core.Path.{◌≡◌, sym, ap, ◌∙◌, subst}
+use mathlib.Core.Path.{◌≡◌, sym, ◌∙◌, subst}
 use mathlib.Core.Logic.{◌↔◌}
 use mathlib.Core.Bool.{true, false, and-eq-true_iff}
 use mathlib.Core.List.{List}
@@ -9,25 +9,14 @@ use borrow.Author.Tests.{leb-true, le-leb}
 use lib.Dec.{T}
 use lib.ListN.{length}
 use Rattle.exchange.specs.Test.{bounds_at}
-use Rattle.exchange.specs.declared.Bounds.{Bounds}
 use Rattle.line.specs.Segments.{spread, fits, deal_along}
 use Rattle.line.specs.BoundsPromise.{has_place}
-use Rattle.line.specs.Code.{Fit, Known, Sums, At, Open, There, origin}
+use Rattle.line.specs.Code.{Fit, Known, At, Open, origin}
 use Rattle.line.specs.CheckCode.{Ahead, cursor_bounds}
 use Rattle.line.specs.declared.Cursor.{Cursor}
 use Rattle.exchange.specs.declared.Sides.{Sides}
-use Rattle.line.specs.declared.sums.Summed.{Summed}
 use Rattle.line.specs.declared.Totals.{Totals}
 use Rattle.line.proofs.SegmentLaws.{at_origin, fits↔, not_so}
-
--- ---- the answer of the sum
-
-module _ (us cs vs : List ℕ) {r : Summed} (s : Sums us cs vs r) where
-  pub sum_known : {t : Totals} → r ≡ Summed.Fits t → Known us cs vs t
-  sum_known e = subst (Sums us cs vs) e s
-
-  pub sum_unfit : r ≡ Summed.Unfit → fits us cs vs ≡ false
-  sum_unfit e = subst (Sums us cs vs) e s
 
 -- ---- the bounds of a place
 
@@ -59,9 +48,5 @@ module _ (us cs vs : List ℕ) (place : ℕ) where
     first_ahead h c o =
         rw o (record { fit = k.fit; at = at_origin us cs vs k.fit; from = omega arith; within = omega (arith, k.units_are) })
 
-    pub bounded : (s : Sides) → place ≤ t.units → (c : Cursor) → There us cs vs c place → {b : Bounds} → b ≡ cursor_bounds s t c
-        → (has_place us cs vs place ≡ true) × (b ≡ bounds_at (deal_along s us cs vs) place)
-    bounded s h c a e = (
-      place↔.1 (k.fit, omega (arith, k.units_are)),
-      e ∙ cursor_bounds_lem s us cs vs t k c a.at ∙ ap (bounds_at (deal_along s us cs vs)) a.place_is,
-    )
+    pub place_here : place ≤ t.units → has_place us cs vs place ≡ true
+    place_here h = place↔.1 (k.fit, omega (arith, k.units_are))

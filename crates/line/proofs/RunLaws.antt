@@ -1,4 +1,6 @@
 -- The rule's steps, written into the areas one by one. Assumes nothing.
+use Rattle.std.proofs.Common.{Option, Some, None, Ok}
+use Rattle.exchange.specs.declared.Objective.{Objective}
 use mathlib.Core.Path.{◌≡◌, refl, sym, ap, ◌∙◌, subst}
 use mathlib.Core.Logic.{◌↔◌, dite}
 use mathlib.Core.Bool.{Bool, true, false, ◌&&◌, and-eq-true_iff}
@@ -29,7 +31,7 @@ use Rattle.exchange.proofs.GivenOrder.Starts.{step_stands}
 use Rattle.exchange.proofs.Objectives.{from_exists}
 use Rattle.exchange.proofs.GivenOrder.Run.{run, run_add, state_eq}
 use Rattle.line.specs.Segments.{spread, fits, deal_along}
-use Rattle.line.specs.Promise.{suits}
+use Rattle.line.specs.Promise.{suits, Answers}
 use Rattle.line.specs.Code.{Fit, Known, At, Reached, Delivered, Holds, Written, Begins, Room, state_at}
 use Rattle.line.specs.declared.Cursor.{Cursor}
 use Rattle.line.specs.declared.Totals.{Totals}
@@ -251,3 +253,9 @@ module _ (us cs vs places sums : List ℕ) where
         let p : Room 2 us cs places = omega arith in
         let q : Room 4 us cs sums = omega arith in
         ((suits↔ us cs vs places sums).1 (k.fit, p, q), p, q)
+
+-- the answer for segments and areas that suit
+pub suits_too : (aim : Objective) (d : Deal) {suit : Bool} → suit ≡ true → (r : Option ℕ) (places sums places' sums' : List ℕ)
+    → Answers aim d true (Ok r) places sums places' sums' → Answers aim d suit (Ok r) places sums places' sums'
+suits_too aim d e (Some n) _ _ _ _ h = (e, h.1)
+suits_too aim d e None _ _ _ _ h = (e, h.1)

@@ -1,16 +1,18 @@
 -- Laws of segments: sums along them, which segments fit, and units of one segment on. Assumes nothing.
 use mathlib.Core.Path.{◌≡◌, refl, sym, ap, ◌∙◌}
 use mathlib.Core.Logic.{◌↔◌}
-use mathlib.Core.Bool.{Bool, true, false, ◌&&◌, and-true, and-false, and-eq-true_iff}
+use Rattle.std.proofs.Common.{nat_eq}
+use Rattle.std.specs.List.{list_any}
+use mathlib.Core.Bool.{Bool, true, false, not, and-eq-true_iff}
 use mathlib.Core.List.{List, [], ◌∷◌}
 use Prim.Native.Nat.{ℕ, zero, suc, ◌+◌, ◌*◌, ◌≤◌, ◌<◌, ◌^◌}
 use native.Mathlib.Omega.{arith}
 use native.Mathlib.Decide.{dec_le}
 use native.Mathlib.Numerals.{add-one}
-use borrow.Author.Tests.{ltb-true, eqb-true, lt-ltb, le-ltb, eq-eqb}
+use borrow.Author.Tests.{ltb-true, eqb-true, lt-ltb, eq-eqb, ne_eqb}
 use lib.Dec.{ltb}
-use lib.ListN.{length, get_or, drop, replicate, length-append, length-replicate, get_or-replicate, get_or-append, get_or-eq_default}
-use lib.Seq.{drop-cons, drop-length, get_or-append-add}
+use lib.ListN.{length, get_or, replicate, length-append, length-replicate, get_or-replicate, get_or-append, get_or-eq_default}
+use lib.Seq.{get_or-append-add}
 use Rattle.exchange.specs.Forms.{along}
 use Rattle.exchange.proofs.FormLaws.{along_rises}
 use Rattle.line.specs.Segments.{spread, all_have, fits}
@@ -78,22 +80,12 @@ first_sum us xs = rw (sum_zero us) (sum_zero (spread us xs))
 
 -- ---- segments that have units
 
-module _ (us : List ℕ) (b : Bool) where
-  -- b tells whether those before segment i have a unit
-  module _ (i : ℕ) (h : i < length us) (e : all_have us ≡ (b && all_have (drop i us))) where
-    have_at : all_have us ≡ (b && (ltb 0 (get_or us i 0) && all_have (drop (suc i) us)))
-    unfolding all_have
-    have_at = e ∙ rw (drop-cons us i 0 h)
-
-    pub have_fails : get_or us i 0 ≡ 0 → all_have us ≡ (false && all_have (drop (suc i) us))
-    have_fails z = have_at ∙ rw (le-ltb 0 (get_or us i 0) (omega arith)) (and-false b)
-
-    pub have_goes_on : (get_or us i 0 ≡ 0 → ⊥) → all_have us ≡ (b && all_have (drop (suc i) us))
-    have_goes_on z = have_at ∙ rw (lt-ltb 0 (get_or us i 0) (omega arith))
-
-  pub have_all : all_have us ≡ (b && all_have (drop (length us) us)) → b ≡ all_have us
-  unfolding all_have
-  have_all e = sym (e ∙ rw (drop-length us) (and-true b))
+-- each segment has a unit unless the list has a 0
+pub none_empty : (us : List ℕ) → not (list_any (λ u. nat_eq u 0) us) ≡ all_have us
+unfolding all_have
+none_empty [] = refl
+none_empty (zero ∷ us) = refl
+none_empty (suc u ∷ us) = rw (ne_eqb (suc u) 0 (λ e. absurd (omega arith)), lt-ltb 0 (suc u) (omega arith)) (none_empty us)
 
 have_each : (us : List ℕ) → all_have us ≡ true → (j : ℕ) → j < length us → 0 < get_or us j 0
 unfolding all_have
@@ -215,9 +207,6 @@ module _ (us cs vs : List ℕ) (c : Cursor) (o : Open us cs vs c) where
       inside : Dec (length us ≤ c.segment) → c.used < get_or us c.segment 0 → c.segment < length us
       inside (yes k) l = let e : get_or us c.segment 0 ≡ 0 = get_or-eq_default us 0 {n = c.segment} k in absurd (omega arith)
       inside (no k) l = omega arith
-
-  pub few_before : c.segment < 2 ^ 16
-  few_before = omega (arith, in_units, segments_few us o.fit.have, spread_length us cs o.fit.costs, o.fit.units_fit)
 
   -- k units of the cursor's segment on
   module _ (k : ℕ) (h : c.used + k ≤ get_or us c.segment 0) where

@@ -1,5 +1,5 @@
 -- What the functions of this crate ask and give.
-use Rattle.std.specs.Prelude.{◌≡◌, Bool, true, false, List, [], map, ◌++◌, ℕ, ◌+◌, ◌*◌, ◌≤◌, ◌<◌, ◌^◌, pos, length, get_or, take, drop, ◌≤ℤ◌}
+use Rattle.std.specs.Prelude.{◌≡◌, Bool, true, false, Result, Ok, Err, List, [], map, ◌++◌, ℕ, ◌+◌, ◌*◌, ◌≤◌, ◌<◌, ◌^◌, pos, length, get_or, take, drop, ◌≤ℤ◌}
 use Rattle.std.specs.Int.Signed.{le_z}
 use Rattle.area.specs.Entries.{entries, remainder}
 use Rattle.exchange.specs.Bounds.{unclipped_upper_of, unclipped_lower_of}
@@ -11,9 +11,9 @@ use Rattle.exchange.specs.Arrival.{Arrives}
 use Rattle.exchange.specs.Work.{WorkStep, work_of}
 use Rattle.exchange.specs.Objectives.{opening, Opens}
 use Rattle.exchange.specs.declared.Sides.{Sides}
+use Rattle.exchange.specs.declared.Unfit.{Unfit}
 use Rattle.line.specs.Segments.{spread, fits, all_have, deal_along}
 use Rattle.line.specs.declared.Cursor.{Cursor}
-use Rattle.line.specs.declared.sums.Summed.{Summed}
 use Rattle.line.specs.declared.First.{First}
 use Rattle.line.specs.declared.Totals.{Totals}
 
@@ -38,9 +38,9 @@ pub record Known (us cs vs : List ℕ) (t : Totals) : Type 0 where
   pub value_is : t.value ≡ sum_to (spread us vs) (length (spread us cs))
 
 -- what summing says: the totals, or that the segments do not fit
-abbrev pub Sums : List ℕ → List ℕ → List ℕ → Summed → Type 0
-Sums us cs vs (Summed.Fits t) = Known us cs vs t
-Sums us cs vs Summed.Unfit = fits us cs vs ≡ false
+abbrev pub Sums : List ℕ → List ℕ → List ℕ → Result Totals Unfit → Type 0
+Sums us cs vs (Ok t) = Known us cs vs t
+Sums us cs vs (Err e) = fits us cs vs ≡ false
 
 -- the cursor stands at its place: at a unit of its segment where units are left, with the cost and value so far
 pub record At (us cs vs : List ℕ) (c : Cursor) : Type 0 where
@@ -117,13 +117,6 @@ state_of r = record { place = r.cursor.place; paid = r.paid }
 -- an area of w-byte entries has an entry for each step that there may be
 abbrev pub Room : ℕ → List ℕ → List ℕ → List ℕ → Type 0
 Room w us cs area = 2 * length (spread us cs) + 1 ≤ length (entries w area)
-
--- a deal that has a plan, and areas with room for it
-pub record Ready (s : Sides) (us cs vs : List ℕ) (t : Totals) (places sums : List ℕ) : Type 0 where
-  pub known : Known us cs vs t
-  pub possible : Possible (deal_along s us cs vs)
-  pub places_room : Room 2 us cs places
-  pub sums_room : Room 4 us cs sums
 
 -- both areas hold these states from entry k on, and are as they were before and after them
 pub record Written (k : ℕ) (xs : List State) (places sums places' sums' : List ℕ) : Type 0 where

@@ -9,3 +9,5 @@ pub mod BoundsPromise
 pub mod CheckPromise
 -- what their private functions ask and give
 pub mod CheckCode
+-- a line of segments as one value
+pub mod Course

@@ -1,12 +1,12 @@
 -- What planning along segments promises.
-use Rattle.std.specs.Prelude.{◌≡◌, Bool, true, false, ◌&&◌, List, map, ℕ, ◌+◌, ◌*◌, leb, length}
+use Rattle.std.specs.Prelude.{◌≡◌, Bool, true, false, Option, Some, None, Result, Ok, Err, ◌&&◌, List, map, ℕ, ◌+◌, ◌*◌, leb, length}
 use Rattle.area.specs.Entries.{entries}
 use Rattle.area.specs.Filled.{Filled}
 use Rattle.exchange.specs.Deal.{Deal, State, Plan}
 use Rattle.exchange.specs.Possible.{Possible}
 use Rattle.exchange.specs.Objectives.{PlanFor}
 use Rattle.exchange.specs.declared.Objective.{Objective}
-use Rattle.exchange.specs.declared.Planned.{Planned}
+use Rattle.exchange.specs.declared.Unfit.{Unfit}
 use Rattle.exchange.specs.declared.Sides.{Sides}
 use Rattle.line.specs.Segments.{deal_along, spread, fits}
 
@@ -25,12 +25,12 @@ pub record Success (aim : Objective) (d : Deal) (n : ℕ) (places sums places' s
   pub sums_are : Filled 4 (map (λ s. s.paid) steps) sums sums'
 
 -- what each answer says of the deal, and of both areas
-abbrev pub Answers : Objective → Deal → Bool → Planned → List ℕ → List ℕ → List ℕ → List ℕ → Type 0
-Answers aim d suit (Planned.Steps n) places sums places' sums' = (suit ≡ true) × Success aim d n places sums places' sums'
-Answers aim d suit Planned.Impossible places sums places' sums' =
+abbrev pub Answers : Objective → Deal → Bool → Result (Option ℕ) Unfit → List ℕ → List ℕ → List ℕ → List ℕ → Type 0
+Answers aim d suit (Ok (Some n)) places sums places' sums' = (suit ≡ true) × Success aim d n places sums places' sums'
+Answers aim d suit (Ok None) places sums places' sums' =
     (suit ≡ true) × (((xs : List State) → Plan d xs → ⊥) × ((places' ≡ places) × (sums' ≡ sums)))
-Answers aim d suit Planned.Unfit places sums places' sums' = (suit ≡ false) × ((places' ≡ places) × (sums' ≡ sums))
+Answers aim d suit (Err e) places sums places' sums' = (suit ≡ false) × ((places' ≡ places) × (sums' ≡ sums))
 
 -- the promise of planning
-abbrev pub Plans : Objective → Sides → List ℕ → List ℕ → List ℕ → Planned → List ℕ → List ℕ → List ℕ → List ℕ → Type 0
+abbrev pub Plans : Objective → Sides → List ℕ → List ℕ → List ℕ → Result (Option ℕ) Unfit → List ℕ → List ℕ → List ℕ → List ℕ → Type 0
 Plans aim s us cs vs r places sums places' sums' = Answers aim (deal_along s us cs vs) (suits us cs vs places sums) r places sums places' sums'

@@ -1,29 +1,29 @@
 // Plans a deal along one order, given as segments: runs of units with one cost and one value.
 #![tactic(auto)]
 
-ghost use Rattle.std.specs.Prelude.{◌≡◌, ◌&&◌, [], ◌+◌, ◌-◌, min, ◌≤◌, ◌<◌, ◌^◌, eqb, pos, length};
+ghost use Rattle.std.specs.Prelude.{◌≡◌, ◌&&◌, [], min, ◌≤◌, ◌<◌, ◌^◌, eqb, pos, length, true, Ok};
 ghost use Rattle.std.specs.Int.Signed.{le_z};
 ghost use Rattle.area.specs.Entries.{entries};
 ghost use Rattle.exchange.specs.Bounds.{upper_of, lower_of};
 ghost use Rattle.exchange.specs.Rule.{coins};
 ghost use Rattle.exchange.specs.Objectives.{opening};
-ghost use Rattle.exchange.specs.Test.{start_test};
-ghost use Rattle.line.specs.Segments.{deal_along};
-ghost use Rattle.line.specs.Promise.{Plans, Success};
+ghost use Rattle.exchange.specs.PlanIn.{plan_in};
+ghost use Rattle.exchange.specs.Test.{bounds_at, start_test};
+ghost use Rattle.line.specs.Promise.{Answers, Plans};
 ghost use Rattle.line.specs.BoundsPromise.{BoundsOf};
 ghost use Rattle.line.specs.CheckPromise.{Checks};
-ghost use Rattle.line.specs.CheckCode.{passes};
-ghost use Rattle.line.specs.Code.{Known, Reached, Delivered, Decides, Ready, Begun, UnitsIn, meet};
+ghost use Rattle.line.specs.CheckCode.{Judges, passes};
+ghost use Rattle.line.specs.Code.{Decides, Begun, meet};
+ghost use Rattle.line.specs.Course.{Course, deal_of, Known, Reached, Delivered, Ahead, There, Room};
 
-mod follow;
 mod opening;
-mod place;
 mod run;
+mod segments;
 mod sums;
 
-use exchange::{Objective, Planned, Sides};
-use place::{advance, bounds_at, first, leap, left};
-use sums::{Summed, add_up};
+use exchange::{Bounds, Objective, Sides, Unfit};
+use segments::Segments;
+use sums::add_up;
 
 // All units, and their cost and value together.
 #[derive(Clone, Copy)]
@@ -50,14 +50,33 @@ pub struct First {
     pub paid: u32,
 }
 
+impl Cursor {
+    // Nothing delivered.
+    pub const START: Cursor = Cursor {
+        place: 0,
+        segment: 0,
+        used: 0,
+        cost: 0,
+        value: 0,
+    };
+}
+
+impl First {
+    // No step at all.
+    const NONE: First = First {
+        cursor: Cursor::START,
+        paid: 0,
+    };
+}
+
 // What is paid at a place: the smaller of its upper bound and the price. Where the start is safe no upper bound is below 0, so the sum
 // needs no sign.
 pub fn pay(sides: Sides, t: Totals, cost: u32) -> u32
     requires { t.cost ≤ sides.price }
     ensures { result ≡ min (coins (upper_of sides.price t.cost cost sides.supplier)) sides.price }
 {
-    let bound = (sides.price - t.cost) as u64 + cost as u64 + sides.supplier as u64;
-    if bound < sides.price as u64 {
+    let bound = u64::from(sides.price - t.cost) + u64::from(cost) + u64::from(sides.supplier);
+    if bound < u64::from(sides.price) {
         return bound as u32;
     }
     sides.price
@@ -67,7 +86,7 @@ pub fn pay(sides: Sides, t: Totals, cost: u32) -> u32
 pub fn reaches(sides: Sides, t: Totals, value: u32, paid: u32) -> bool
     ensures { result ≡ le_z (lower_of sides.price t.value value sides.buyer) (pos paid) }
 {
-    exchange::lower(sides.price, t.value, value, sides.buyer) <= paid as i64
+    exchange::lower(sides.price, t.value, value, sides.buyer) <= i64::from(paid)
 }
 
 // Whether what is paid is at most a place's upper bound. It is at most the price, so clipping the bound changes nothing.
@@ -75,7 +94,7 @@ fn affords(sides: Sides, t: Totals, cost: u32, paid: u32) -> bool
     requires { paid ≤ sides.price }
     ensures { result ≡ le_z (pos paid) (upper_of sides.price t.cost cost sides.supplier) }
 {
-    paid as i64 <= exchange::unclipped_upper(sides.price, t.cost, cost, sides.supplier)
+    i64::from(paid) <= exchange::unclipped_upper(sides.price, t.cost, cost, sides.supplier)
 }
 
 // Whether it is a step from a place of this cost with p paid to a later place of this value with q paid: all four states are safe.
@@ -119,91 +138,51 @@ pub fn arrived(place: usize, paid: u32, last: usize, price: u32) -> bool
     place == last && paid == price
 }
 
-// Whether no gap lies before the first nor before the last unit of a segment with this cost and value, from its open units c to its end.
-fn joins(sides: Sides, t: Totals, c: Cursor, to: Cursor, cost: u32, value: u32) -> bool
-    requires { (c.value + value < 2 ^ 32) × (cost ≤ to.cost) }
-    ensures { result ≡ (meet sides t c.cost (c.value + value) && meet sides t (to.cost - cost) to.value) }
-{
-    if !meets(sides, t, c.cost, c.value + value) {
-        return false;
-    }
-    meets(sides, t, to.cost - cost, to.value)
-}
+// A line of segments, by what planning and checking ask of it.
+pub trait Line {
+    ghost course: { Self → Course };
 
-// Whether a plan exists: the start is safe, and the lower bound of each place is at most the upper bound of the place before it.
-// Along a segment both rise by constants, so its first and its last unit decide.
-fn possible(sides: Sides, t: Totals, units: &[u16], costs: &[u32], values: &[u32]) -> bool
-    requires { Known units.now costs.now values.now t }
-    ensures { Decides (deal_along sides units.now costs.now values.now) result }
-{
-    if !start_safe(sides, t) {
-        return false;
-    }
-    let mut c = first();
-    while c.place < t.units {
-        let segment = c.segment;
-        let to = leap(units, costs, values, c, left(units, c));
-        if !joins(sides, t, c, to, costs[segment], values[segment]) {
-            return false;
-        }
-        c = to;
-    }
-    true
-}
+    fn sides(&self) -> Sides
+        ensures { result ≡ (course self.now).sides };
 
-// How much more value may be delivered before the lower bound is above what is paid.
-fn slack(sides: Sides, t: Totals, value: u32, paid: u32) -> u64
-    requires { sides.price + value ≤ paid + (t.value + sides.buyer) }
-    ensures { sides.price + value + result ≡ paid + (t.value + sides.buyer) }
-{
-    paid as u64 + (t.value as u64 + sides.buyer as u64) - (sides.price as u64 + value as u64)
-}
+    fn totals(&self) -> Totals
+        ensures { result ≡ (course self.now).all };
 
-// How many of n units of one value make no more than a limit: mostly one or all, which needs no division.
-fn units_in(limit: u64, value: u32, n: u16) -> u16
-    requires { (value ≤ limit) × (0 < n) }
-    ensures { UnitsIn limit value n result }
-{
-    let each = value as u64;
-    if limit < 2 * each {
-        return 1;
-    }
-    if sums::amount(n, value) <= limit {
-        return n;
-    }
-    (limit / each) as u16
-}
+    // A place.
+    fn at(&self, place: usize) -> Cursor
+        requires { place ≤ (course self.now).all.units }
+        ensures { There (course self.now) result place };
 
-// On to the greatest place whose lower bound is at most what is paid. Mostly the next unit is too much already.
-fn deliver(
-    sides: Sides,
-    t: Totals,
-    units: &[u16],
-    costs: &[u32],
-    values: &[u32],
-    from: Cursor,
-    paid: u32,
-) -> Cursor
-    requires { Known units.now costs.now values.now t × Reached sides units.now costs.now values.now paid from }
-    ensures { Delivered sides units.now costs.now values.now paid result }
-{
-    let mut c = from;
-    while c.place < t.units {
-        let segment = c.segment;
-        let value = values[segment];
-        let free = slack(sides, t, c.value, paid);
-        if free < value as u64 {
-            return c;
-        }
-        let n = left(units, c);
-        let k = units_in(free, value, n);
-        c = leap(units, costs, values, c, k);
-        // Units of the segment are left: one more is too much.
-        if c.segment == segment {
-            return c;
-        }
+    // On to a place.
+    fn advance(&self, from: Cursor, place: usize) -> Cursor
+        requires { Ahead (course self.now) from place }
+        ensures { There (course self.now) result place };
+
+    // On to the greatest place whose lower bound is at most what is paid.
+    fn deliver(&self, from: Cursor, paid: u32) -> Cursor
+        requires { Reached (course self.now) paid from }
+        ensures { Delivered (course self.now) paid result };
+
+    // Whether a plan exists.
+    fn possible(&self) -> bool
+        ensures { Decides (deal_of (course self.now)) result };
+
+    // Whether the start is safe.
+    fn start_safe(&self) -> bool
+        ensures { result ≡ start_test (course self.now).sides.price (course self.now).all.cost 0 (course self.now).all.value 0 }
+    {
+        start_safe(self.sides(), self.totals())
     }
-    c
+
+    // Whether it is a step from one place with p paid to a later one with q paid.
+    fn is_step(&self, from: Cursor, to: Cursor, p: u32, q: u32) -> bool
+        ensures { result ≡ passes (course self.now).sides (course self.now).all from.cost to.value p q }
+    {
+        is_step(self.sides(), self.totals(), from.cost, to.value, p, q)
+    }
+
+    // The segments fit, and the totals are theirs.
+    ghost known: { (x : Self) → Known (course x) };
 }
 
 // How many steps a first step counts for: none if it is empty.
@@ -227,35 +206,75 @@ pub fn begin(place: usize, paid: u32, places: &mut [u8], sums: &mut [u8]) -> usi
     if n == 0 {
         return n;
     }
-    area::store_u16(places, 0, place as u16);
-    area::store_u32(sums, 0, paid);
+    area::store(places, 0, place as u16);
+    area::store(sums, 0, paid);
     n
 }
 
-// The plan for an aim in the areas, and zeros after it.
-fn lay(
-    sides: Sides,
-    t: Totals,
-    units: &[u16],
-    costs: &[u32],
-    values: &[u32],
+// Plans a line for an aim: the places and paid totals of the steps go to two byte areas, two and four bytes an entry, and zeros after them.
+pub fn plan_line<L: Line>(
+    line: &L,
     aim: Objective,
     places: &mut [u8],
     sums: &mut [u8],
-) -> usize
-    requires { Ready sides units.now costs.now values.now t places.old sums.old }
-    ensures { Success aim (deal_along sides units.now costs.now values.now) result places.old sums.old places.new sums.new }
+) -> Option<usize>
+    requires { Room (L.course line.now) places.old sums.old }
+    ensures { Answers aim (deal_of (L.course line.now)) true (Ok result) places.old sums.old places.new sums.new }
 {
-    let f = opening::first_for(sides, t, units, costs, values, aim);
+    if !line.possible() {
+        return None;
+    }
+    let f = opening::first_for(line, aim);
     let k = begin(f.cursor.place, f.paid, places, sums);
-    let n = run::fill(sides, t, units, costs, values, f, k, places, sums);
+    let n = run::fill(line, f, k, places, sums);
     let count = k + n;
-    area::clear_u16(places, count);
-    area::clear_u32(sums, count);
-    count
+    area::clear_from::<u16>(places, count);
+    area::clear_from::<u32>(sums, count);
+    Some(count)
 }
 
-// Plans along the segments: the places and paid totals of the steps go to two byte areas, two and four bytes an entry.
+// Both bounds of a place of a line.
+pub fn bounds_line<L: Line>(line: &L, place: usize) -> Bounds
+    requires { place ≤ (L.course line.now).all.units }
+    ensures { result ≡ bounds_at (deal_of (L.course line.now)) place }
+{
+    let c = line.at(place);
+    let sides = line.sides();
+    let all = line.totals();
+    let lower = exchange::lower(sides.price, all.value, c.value, sides.buyer);
+    let upper = exchange::upper(sides.price, all.cost, c.cost, sides.supplier);
+    Bounds { lower, upper }
+}
+
+// Whether the first entries of two byte areas, places and paid totals, are a plan of a line. With a safe start every state of a step is judged
+// by the bounds of its place, (0, 0) too.
+pub fn check_line<L: Line>(line: &L, count: usize, places: &[u8], sums: &[u8]) -> bool
+    requires { (count ≤ length (entries 2 places.now)) × (count ≤ length (entries 4 sums.now)) }
+    ensures { Judges (deal_of (L.course line.now)) (plan_in count places.now sums.now) result }
+{
+    if !line.start_safe() {
+        return false;
+    }
+    let all = line.totals();
+    let mut c = Cursor::START;
+    let mut paid = 0;
+    for i in 0..count {
+        let place = usize::from(area::known::<u16>(places, i));
+        let sum = area::known::<u32>(sums, i);
+        if place < c.place || all.units < place {
+            return false;
+        }
+        let to = line.advance(c, place);
+        if !line.is_step(c, to, paid, sum) {
+            return false;
+        }
+        c = to;
+        paid = sum;
+    }
+    arrived(c.place, paid, all.units, line.sides().price)
+}
+
+// Plans along the segments, as plan_line does.
 pub fn plan(
     sides: Sides,
     units: &[u16],
@@ -264,56 +283,50 @@ pub fn plan(
     aim: Objective,
     places: &mut [u8],
     sums: &mut [u8],
-) -> Planned
+) -> Result<Option<usize>, Unfit>
     ensures { Plans aim sides units.now costs.now values.now result places.old sums.old places.new sums.new }
 {
-    let Summed::Fits(t) = add_up(units, costs, values) else {
-        return Planned::Unfit;
+    let all = add_up(units, costs, values)?;
+    let most = 2 * all.units + 1;
+    if area::count::<u16>(places) < most || area::count::<u32>(sums) < most {
+        return Err(Unfit);
+    }
+    let line = Segments {
+        sides,
+        all,
+        units,
+        costs,
+        values,
     };
-    let most = 2 * t.units + 1;
-    if area::count_u16(places) < most {
-        return Planned::Unfit;
-    }
-    if area::count_u32(sums) < most {
-        return Planned::Unfit;
-    }
-    if !possible(sides, t, units, costs, values) {
-        return Planned::Impossible;
-    }
-    let n = lay(sides, t, units, costs, values, aim, places, sums);
-    Planned::Steps(n)
+    Ok(plan_line(&line, aim, places, sums))
 }
 
-#[derive(Clone, Copy)]
-pub enum Bounded {
-    Between(exchange::Bounds),
-    // The segments do not fit, or the place is above all units.
-    Unfit,
-}
-
-#[derive(Clone, Copy)]
-pub enum Checked {
-    Safe,
-    Unsafe,
-    // The segments do not fit, or an area has fewer entries than the count says.
-    Unfit,
-}
-
-// Both bounds of a place along the segments.
-pub fn bounds(sides: Sides, units: &[u16], costs: &[u32], values: &[u32], place: usize) -> Bounded
+// Both bounds of a place along the segments, unless they do not fit or the place is above all units.
+pub fn bounds(
+    sides: Sides,
+    units: &[u16],
+    costs: &[u32],
+    values: &[u32],
+    place: usize,
+) -> Result<Bounds, Unfit>
     ensures { BoundsOf sides units.now costs.now values.now place result }
 {
-    let Summed::Fits(t) = add_up(units, costs, values) else {
-        return Bounded::Unfit;
-    };
-    if t.units < place {
-        return Bounded::Unfit;
+    let all = add_up(units, costs, values)?;
+    if all.units < place {
+        return Err(Unfit);
     }
-    let c = advance(units, costs, values, first(), place);
-    Bounded::Between(bounds_at(sides, t, c))
+    let line = Segments {
+        sides,
+        all,
+        units,
+        costs,
+        values,
+    };
+    Ok(bounds_line(&line, place))
 }
 
-// Whether the first entries of two byte areas, places and paid totals, are a plan along the segments.
+// Whether the first entries of two byte areas, places and paid totals, are a plan along the segments, unless these do not fit or an area
+// has fewer entries than the count says.
 pub fn check(
     sides: Sides,
     units: &[u16],
@@ -322,20 +335,19 @@ pub fn check(
     count: usize,
     places: &[u8],
     sums: &[u8],
-) -> Checked
+) -> Result<bool, Unfit>
     ensures { Checks sides units.now costs.now values.now count places.now sums.now result }
 {
-    let Summed::Fits(t) = add_up(units, costs, values) else {
-        return Checked::Unfit;
+    let all = add_up(units, costs, values)?;
+    if area::count::<u16>(places) < count || area::count::<u32>(sums) < count {
+        return Err(Unfit);
+    }
+    let line = Segments {
+        sides,
+        all,
+        units,
+        costs,
+        values,
     };
-    if area::count_u16(places) < count {
-        return Checked::Unfit;
-    }
-    if area::count_u32(sums) < count {
-        return Checked::Unfit;
-    }
-    if follow::follows(sides, t, units, costs, values, count, places, sums) {
-        return Checked::Safe;
-    }
-    Checked::Unsafe
+    Ok(check_line(&line, count, places, sums))
 }

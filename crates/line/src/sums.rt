@@ -1,44 +1,17 @@
 // The totals of segments, and which segments fit.
-ghost use Rattle.std.specs.Prelude.{◌≡◌, ◌*◌, ◌<◌, ◌^◌, length};
+ghost use Rattle.std.specs.Prelude.{◌≡◌, ◌<◌, ◌^◌, length};
 ghost use Rattle.line.specs.Segments.{spread, all_have};
 ghost use Rattle.line.specs.Code.{sum_to, Sums};
 
 use super::Totals;
-
-// The totals of segments that fit.
-#[derive(Clone, Copy)]
-pub(crate) enum Summed {
-    Fits(Totals),
-    Unfit,
-}
+use super::segments::amount;
+use exchange::Unfit;
 
 // Whether every segment has a unit.
 fn have_units(units: &[u16]) -> bool
     ensures { result ≡ all_have units.now }
 {
-    let mut have = true;
-    let mut i = 0;
-    while i < units.len() {
-        if units[i] == 0 {
-            have = false;
-        }
-        i += 1;
-    }
-    have
-}
-
-// A number of units in 32 bits.
-fn wide(u: u16) -> u32
-    ensures { (result ≡ u) × (result < 2 ^ 16) }
-{
-    u as u32
-}
-
-// An amount of u units.
-pub(crate) fn amount(u: u16, a: u32) -> u64
-    ensures { (result ≡ u * a) × (result < 2 ^ 48) }
-{
-    u as u64 * a as u64
+    !units.contains(&0)
 }
 
 // All units.
@@ -47,10 +20,8 @@ fn count(units: &[u16]) -> u32
     ensures { result ≡ sum_to units.now (length units.now) }
 {
     let mut n = 0;
-    let mut i = 0;
-    while i < units.len() {
-        n += wide(units[i]);
-        i += 1;
+    for &u in units {
+        n += u32::from(u);
     }
     n
 }
@@ -61,43 +32,41 @@ fn total(units: &[u16], amounts: &[u32]) -> u64
     ensures { result ≡ sum_to (spread units.now amounts.now) (length (spread units.now amounts.now)) }
 {
     let mut sum = 0;
-    let mut i = 0;
-    while i < units.len() {
-        sum += amount(units[i], amounts[i]);
-        i += 1;
+    for (i, &u) in units.iter().enumerate() {
+        sum += amount(u, amounts[i]);
     }
     sum
 }
 
 // The totals, if the segments fit. More than 65,535 segments have more units than fit; of fewer, no sum below wraps.
-pub(crate) fn add_up(units: &[u16], costs: &[u32], values: &[u32]) -> Summed
+pub(crate) fn add_up(units: &[u16], costs: &[u32], values: &[u32]) -> Result<Totals, Unfit>
     ensures { Sums units.now costs.now values.now result }
 {
-    if 65535 < units.len() {
-        return Summed::Unfit;
+    if usize::from(u16::MAX) < units.len() {
+        return Err(Unfit);
     }
     if costs.len() != units.len() {
-        return Summed::Unfit;
+        return Err(Unfit);
     }
     if values.len() != units.len() {
-        return Summed::Unfit;
+        return Err(Unfit);
     }
     if !have_units(units) {
-        return Summed::Unfit;
+        return Err(Unfit);
     }
     let n = count(units);
-    if 65535 < n {
-        return Summed::Unfit;
+    if u32::from(u16::MAX) < n {
+        return Err(Unfit);
     }
     let cost = total(units, costs);
-    if 4294967295 < cost {
-        return Summed::Unfit;
+    if u64::from(u32::MAX) < cost {
+        return Err(Unfit);
     }
     let value = total(units, values);
-    if 4294967295 < value {
-        return Summed::Unfit;
+    if u64::from(u32::MAX) < value {
+        return Err(Unfit);
     }
-    Summed::Fits(Totals {
+    Ok(Totals {
         units: n as usize,
         cost: cost as u32,
         value: value as u32,

@@ -1,3 +1,4 @@
+pub mod MapLaws
 pub mod Laws
 pub mod NamedLaws
 pub mod FirstEight

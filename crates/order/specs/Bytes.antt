@@ -15,9 +15,13 @@ names_each n bytes = each_once n (take n bytes) && all_zero (drop n (take 8 byte
 abbrev pub items_in : ℕ → List ℕ → List ℕ
 items_in n bytes = map (λ b. b - 1) (take n bytes)
 
--- the amount of each item that is named by its number from 1; 0 where no item is
+-- the amount of each item that is named by its number from 1; `none` where no item is
+abbrev pub picked_or : {X : Type 0} → X → List X → List ℕ → List X
+picked_or none amounts named = map (λ b. get_or (none ∷ amounts) b none) named
+
+-- the same with 0 where no item is
 abbrev pub picked : List ℕ → List ℕ → List ℕ
-picked amounts named = map (λ b. get_or (0 ∷ amounts) b 0) named
+picked amounts named = picked_or 0 amounts named
 
 -- an area with eight order bytes stored; as it was where it is too short
 abbrev pub stored_in : List ℕ → List ℕ → List ℕ

@@ -2,8 +2,7 @@
 use mathlib.Core.Path.{◌≡◌, sym, ap, ◌∙◌, subst}
 use mathlib.Core.Bool.{Bool, true, false, not, ◌&&◌, and-eq-true_iff}
 use mathlib.Core.List.{List}
-use Prim.Native.Nat.{ℕ, ◌-◌, ◌≤◌}
-use native.Mathlib.Nat.{sub-zero}
+use Prim.Native.Nat.{ℕ, ◌≤◌}
 use native.Mathlib.Omega.{arith}
 use lib.Dec.{leb}
 use lib.ListN.{length, take}
@@ -11,9 +10,11 @@ use lib.Seq.{take-take}
 use borrow.Author.Tests.{le-leb, not-true, not-false}
 use Rattle.area.specs.Entries.{entries}
 use Rattle.contract.specs.Res.{Res, ok}
+use Rattle.contract.specs.Contract.{Contract}
 use Rattle.contract.specs.Valid.{Valid, sum}
 use Rattle.contract.specs.declared.Form.TheVariants.{UnitPrices}
-use Rattle.exchange.specs.Deal.{Deal, State}
+use Rattle.exchange.specs.Deal.{Deal}
+use Rattle.exchange.specs.Named.{each_once}
 use Rattle.exchange.specs.Test.{bounds_at}
 use Rattle.exchange.specs.declared.Bounds.{Bounds}
 use Rattle.exchange.specs.declared.Sides.{Sides}
@@ -26,8 +27,10 @@ use Rattle.order.proofs.NamedLaws.{picked_take, names_split}
 use Rattle.planning.specs.Deals.{contract_with}
 use Rattle.planning.specs.Order.{order_in, deal_by}
 use Rattle.planning.specs.Check.{holds_count}
-use Rattle.planning.proofs.NamedOrder.{few_items, named_deal, named_units, named_fits}
-use Rattle.planning.specs.Judged.{Judges}
+use Rattle.planning.proofs.NamedOrder.{named_deal, named_units, named_fits}
+use Rattle.planning.proofs.TermsLaws.{contract_as, valid_as}
+use Rattle.planning.specs.Terms.{contract_in}
+use Rattle.planning.specs.declared.terms.Terms.{Terms}
 
 -- ---- segments that stand for a deal
 
@@ -55,40 +58,52 @@ module _ (s : Sides) (us cs vs : List ℕ) (d : Deal) (a : Along s us cs vs d) w
       let f = (and-eq-true_iff (leb count (length (entries 2 places))) _).0 e in
       rw (a.fit, f.0) f.1
 
-  pub along_judges : (xs : List State) (r : Res (Unit {0})) → Judges (deal_along s us cs vs) xs r → Judges d xs r
-  along_judges xs r j = subst (λ (y : Deal). Judges y xs r) a.deal_is j
-
 -- ---- unit prices
 
-module _ (s : Sides) (us cs vs order : List ℕ) (v : Valid (contract_with UnitPrices s us cs vs)) (eight : 8 ≤ length order) where
+module _ (t : Terms) (form : t.form ≡ UnitPrices) (order : List ℕ) (eight : 8 ≤ length order) where
+  abbrev us : List ℕ
+  us = t.units.now
+
+  v : Valid (contract_with UnitPrices t.sides us t.costs.now t.values.now)
+  v = valid_as t form
+
   -- the amounts that the first eight bytes pick are those that the bytes pick
   front : (xs : List ℕ) {named ys : List ℕ} → named ≡ first_eight order → ys ≡ picked xs named
-      → take (length us - 0) ys ≡ take (length us) (picked xs order)
+      → take (length us) ys ≡ take (length us) (picked xs order)
   front xs {named} {ys} e f =
-      let g : take (length us) (take 8 order) ≡ take (length us) order = take-take (length us) 8 order (few_items s us cs vs v) in
-      rw (sub-zero (length us), f, e, eight_front order eight, picked_take (length us) xs (take 8 order), g)
+      let g : take (length us) (take 8 order) ≡ take (length us) order = take-take (length us) 8 order t.few_items in
+      rw (f, e, eight_front order eight, picked_take (length us) xs (take 8 order), g)
       (sym (picked_take (length us) xs order))
 
-  -- all units
-  pub prices_last : names_each (length us) order ≡ true → (deal_by (contract_with UnitPrices s us cs vs) order).last ≡ sum us
-  unfolding order_in
-  prices_last t =
-      let few = few_items s us cs vs v in
-      let long : length us ≤ length order = omega arith in
-      let once = (names_split (length us) order t).0 in
-      sym (ap (λ (d : Deal). d.last) (named_deal s us cs vs v order long once)) ∙ named_units s us cs vs v order long once
+  -- with each item named once
+  module _ (named : names_each (length us) order ≡ true) where
+    long : length us ≤ length order
+    long = omega (arith, t.few_items)
 
-  -- the items in the order that the bytes name
-  pub prices_along : names_each (length us) order ≡ true
-      → {named us' cs' vs' : List ℕ} → named ≡ first_eight order → us' ≡ picked us named → cs' ≡ picked cs named → vs' ≡ picked vs named
-      → Along s (take (length us - 0) us') (take (length us - 0) cs') (take (length us - 0) vs') (deal_by (contract_with UnitPrices s us cs vs) order)
-  unfolding order_in
-  prices_along t e eu ec ev =
-      let few = few_items s us cs vs v in
-      let long : length us ≤ length order = omega arith in
-      let once = (names_split (length us) order t).0 in
-      rw (front us e eu, front cs e ec, front vs e ev)
-      (record { fit = named_fits s us cs vs v order long once; deal_is = named_deal s us cs vs v order long once })
+    once : each_once (length us) (take (length us) order) ≡ true
+    once = (names_split (length us) order named).0
+
+    -- all units
+    pub along_last : (deal_by (contract_in t) order).last ≡ sum us
+    unfolding order_in
+    along_last =
+        subst (λ (k : Contract). (deal_by k order).last ≡ sum us) (sym (contract_as t form))
+        (sym (ap (λ (d : Deal). d.last) (named_deal t.sides us t.costs.now t.values.now v order long once))
+        ∙ named_units t.sides us t.costs.now t.values.now v order long once)
+
+    -- the items in the order that the bytes name
+    pub prices_along : {first us' cs' vs' : List ℕ} → first ≡ first_eight order → us' ≡ picked us first → cs' ≡ picked t.costs.now first → vs' ≡ picked t.values.now first
+        → Along t.sides (take (length us) us') (take (length us) cs') (take (length us) vs') (deal_by (contract_in t) order)
+    unfolding order_in
+    prices_along e eu ec ev =
+        rw (front us e eu, front t.costs.now e ec, front t.values.now e ev)
+        (subst
+        (λ (k : Contract). Along t.sides (take (length us) (picked us order)) (take (length us) (picked t.costs.now order)) (take (length us) (picked t.values.now order)) (deal_by k order))
+        (sym (contract_as t form))
+        (record {
+          fit = named_fits t.sides us t.costs.now t.values.now v order long once;
+          deal_is = named_deal t.sides us t.costs.now t.values.now v order long once;
+        }))
 
 -- ---- the test of the order bytes, of which there are eight, for no more than eight items
 module _ (n : ℕ) (order : List ℕ) (few : n ≤ 8) (eight : 8 ≤ length order) {t : Bool}

@@ -1,6 +1,6 @@
--- a contract that was read, and its parts by its form
+-- a contract that was read, and its terms by its form
 pub mod ReadLaws
-pub mod FormArms
+pub mod TermsLaws
 -- an order of items as segments
 pub mod SegmentJoin
 pub mod NamedOrder

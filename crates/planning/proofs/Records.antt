@@ -3,6 +3,7 @@ use mathlib.Core.Path.{◌≡◌, refl, sym, ap, subst, ◌∙◌}
 use mathlib.Core.Bool.{true}
 use mathlib.Core.List.{List}
 use Prim.Native.Nat.{ℕ}
+use Rattle.std.specs.Prelude.{Result}
 use Rattle.contract.specs.Res.{refused, ok, bind}
 use Rattle.contract.specs.Contract.{Contract}
 use Rattle.contract.specs.Parse.{parse}
@@ -15,7 +16,7 @@ use Rattle.exchange.specs.declared.Objective.{Objective}
 use Rattle.planning.specs.Answer.{answer_of}
 use Rattle.planning.specs.Areas.{Areas}
 use Rattle.planning.specs.Promise.{along_order, roomed, ahead, PlansFor, PlansOf}
-use Rattle.planning.specs.declared.Planned.{Planned}
+use Rattle.planning.specs.declared.PlanError.{PlanError}
 
 -- a record that is refused
 pub refused_plans : (aim : Objective) (bytes : List ℕ) (a : Areas) (n : ℕ) → parse bytes ≡ refused n → PlansFor aim (ahead bytes a) (refused n) a a
@@ -23,7 +24,7 @@ unfolding ahead
 refused_plans aim bytes a n e = rw e (refl, refl)
 
 -- a record that says a contract
-pub accepted_plans : (aim : Objective) (bytes : List ℕ) (k : Contract) (r : Planned) (a a' : Areas) → parse bytes ≡ ok k → PlansOf aim k r a a'
+pub accepted_plans : (aim : Objective) (bytes : List ℕ) (k : Contract) (r : Result ℕ PlanError) (a a' : Areas) → parse bytes ≡ ok k → PlansOf aim k r a a'
     → PlansFor aim (ahead bytes a) (answer_of r) a a'
 unfolding ahead
 accepted_plans aim bytes k r a a' e h = subst (λ x. PlansFor aim (bind x (λ k. roomed k a)) (answer_of r) a a') (sym e) h.plans

@@ -7,7 +7,7 @@ pub mod Promise
 pub mod OneAnswer
 pub mod Bounds
 pub mod Check
--- a contract that was read, and a plan that is judged
+-- a contract that was read
 pub mod Stands
+pub mod Terms
 pub mod Found
-pub mod Judged

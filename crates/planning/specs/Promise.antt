@@ -1,5 +1,5 @@
 -- What planning promises, by the record, the areas and the answer.
-use Rattle.std.specs.Prelude.{◌≡◌, Bool, true, false, List, map, ℕ, ◌+◌, ◌*◌, ◌≤◌, length, drop, replicate}
+use Rattle.std.specs.Prelude.{◌≡◌, Bool, true, false, List, map, ℕ, ◌+◌, ◌*◌, ◌≤◌, length, drop, replicate, Result}
 use Rattle.area.specs.Filled.{Filled}
 use Rattle.contract.specs.Res.{Res, refused, ok, bind, test}
 use Rattle.contract.specs.Contract.{Contract}
@@ -16,7 +16,7 @@ use Rattle.planning.specs.Deals.{NoPlan}
 use Rattle.planning.specs.Order.{names_order, deal_by, NamesChosen}
 use Rattle.planning.specs.Areas.{Areas, room_for, work_cleared}
 use Rattle.planning.specs.Answer.{answer_of}
-use Rattle.planning.specs.declared.Planned.{Planned}
+use Rattle.planning.specs.declared.PlanError.{PlanError}
 
 -- a contract, or 8 where an area is too short for a plan of it
 abbrev pub roomed : Contract → Areas → Res Contract
@@ -98,5 +98,5 @@ abbrev pub Plans : Res Contract → Res ℕ → Areas → Areas → Type 0
 Plans ahead answer before after = PlansFor Objective.Steps ahead answer before after
 
 -- the promise for a contract that was read
-pub record PlansOf (aim : Objective) (k : Contract) (r : Planned) (before after : Areas) : Type 0 where
+pub record PlansOf (aim : Objective) (k : Contract) (r : Result ℕ PlanError) (before after : Areas) : Type 0 where
   pub plans : PlansFor aim (roomed k before) (answer_of r) before after

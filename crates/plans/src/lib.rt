@@ -10,24 +10,18 @@ ghost use Rattle.plans.specs.Code.{work_after};
 mod table;
 
 use exchange::Objective;
-use planning::Planned;
+use planning::PlanError;
 use record::Found;
 
 // Planning along an order has no use for the work area, and leaves it zero unless an area is too short.
-pub(crate) fn settle(answer: Planned, work: &mut [u8]) -> Planned
+pub(crate) fn settle(answer: Result<usize, PlanError>, work: &mut [u8]) -> Result<usize, PlanError>
     ensures { (result ≡ answer) × (work.new ≡ work_after answer work.old) }
 {
     match answer {
-        Planned::Refused(e) => Planned::Refused(e),
-        Planned::Impossible => {
-            area::clear(work);
-            Planned::Impossible
-        }
-        Planned::Steps(n) => {
-            area::clear(work);
-            Planned::Steps(n)
-        }
+        Err(PlanError::Refused(_)) => {}
+        _ => area::clear(work),
     }
+    answer
 }
 
 // Plans the deal of a record. The places and paid totals of the steps go to two byte areas, two and four bytes an entry, and the order of
@@ -38,11 +32,10 @@ pub fn plan(
     sums: &mut [u8],
     order: &mut [u8],
     work: &mut [u8],
-) -> Planned
+) -> Result<usize, PlanError>
     ensures { Plans (ahead bytes.now (areas places.old sums.old order.old work.old)) (answer_of result) (areas places.old sums.old order.old work.old) (areas places.new sums.new order.new work.new) }
 {
-    match record::find(bytes) {
-        Found::Refused(e) => Planned::Refused(e),
+    match record::find(bytes)? {
         Found::Ladder(l) => {
             let answer = along::plan_ladder(l, bytes, Objective::Steps, places, sums, order);
             settle(answer, work)

@@ -1,27 +1,21 @@
 -- The printer's areas have room for every contract, and what planning leaves in them has room in the text. Assumes nothing.
-use mathlib.Core.Path.{◌≡◌, sym, ap}
-use mathlib.Core.List.{List, []}
+use mathlib.Core.Path.{sym, ap}
+use mathlib.Core.List.{List}
 use Prim.Native.Nat.{ℕ, ◌+◌, ◌*◌, ◌-◌, ◌≤◌}
 use native.Mathlib.Omega.{arith}
 use lib.ListN.{length, replicate, length-append, length-map, length-replicate}
 use borrow.Author.Tests.{le-leb}
 use Rattle.area.specs.Entries.{entries}
 use Rattle.area.specs.Filled.{Filled}
-use Rattle.area.specs.Puts.{Puts}
 use Rattle.area.proofs.Laws.{entries_length}
 use Rattle.contract.specs.Res.{Res, refused, ok}
-use Rattle.contract.specs.Contract.{Contract, number_of}
-use Rattle.contract.specs.declared.Refusal.{Refusal}
+use Rattle.contract.specs.Contract.{Contract}
 use Rattle.contract.proofs.ParsedValid.ResLaws.{never}
 use Rattle.exchange.specs.Deal.{State}
 use Rattle.exchange.specs.PlanIn.{plan_in}
-use Rattle.planning.specs.Answer.{answer_of}
 use Rattle.planning.specs.Areas.{Areas, has_room, Roomy}
 use Rattle.planning.specs.Promise.{Plans, Success}
-use Rattle.planning.specs.declared.Planned.{Planned}
-use Rattle.text.specs.Text.{text}
-use Rattle.text.specs.Code.{Room}
-use Rattle.printer.specs.Printout.{text_for, places_lent, sums_lent, work_lent, lent}
+use Rattle.printer.specs.Printout.{places_lent, sums_lent, work_lent, lent}
 use Rattle.printer.specs.Code.{Listed, Counted}
 
 -- the printer's areas are enough for every contract
@@ -49,23 +43,3 @@ pub counted : (said : Res Contract) (answer : Res ℕ) (after : Areas) → Plans
 counted said (refused e) after p = tt
 counted (refused e) (ok n) after p = never (sym p.0)
 counted (ok k) (ok n) after p = listed k n after p
-
--- ---- the text of each answer
-
-module _ {planned : Planned} (places sums : List ℕ) {out : List ℕ} where
-  pub steps_room : {n : ℕ} → planned ≡ Planned.Steps n → Counted (answer_of planned) places sums → 46035 ≤ length out → Room n places sums out 12
-  steps_room {n} e h long =
-      let l : Listed n places sums = rw e at h in
-      record { in_places = l.in_places; in_sums = l.in_sums; numbers = omega (arith, l.few); fits = omega (arith, l.few) }
-
-  module _ {r : ℕ} {after : List ℕ} where
-    pub refused_put : {e : Refusal} {n : ℕ} → planned ≡ Planned.Refused e → n ≡ number_of e → Puts (text (refused n) []) out 0 r after
-        → Puts (text_for (answer_of planned) places sums) out 0 r after
-    refused_put e f h = rw e (rw f at h)
-
-    pub impossible_put : planned ≡ Planned.Impossible → Puts (text (refused 9) []) out 0 r after → Puts (text_for (answer_of planned) places sums) out 0 r after
-    impossible_put e h = rw e h
-
-    pub plan_put : {n : ℕ} → planned ≡ Planned.Steps n → Puts (text (ok n) (plan_in n places sums)) out 0 r after
-        → Puts (text_for (answer_of planned) places sums) out 0 r after
-    plan_put e h = rw e h

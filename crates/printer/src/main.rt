@@ -7,22 +7,31 @@ ghost use Rattle.planning.specs.Answer.{answer_of};
 ghost use Rattle.printer.specs.Printout.{text_for, Prints};
 ghost use Rattle.printer.specs.Code.{Counted};
 
-use planning::Planned;
+use planning::PlanError;
 
+// Standard input and output stay with `io`: std reads up to the end of the input only into memory of the heap, or forgets how much there was.
 const STDIN: i32 = 0;
 
 const STDOUT: i32 = 1;
 
+// The number of the answer that no plan exists.
+const IMPOSSIBLE: u32 = 9;
+
 // Puts the text of an answer at the front of an area, and answers its length.
-fn put_answer(planned: Planned, places: &[u8], sums: &[u8], out: &mut [u8]) -> usize
+fn put_answer(
+    planned: Result<usize, PlanError>,
+    places: &[u8],
+    sums: &[u8],
+    out: &mut [u8],
+) -> usize
     requires { Counted (answer_of planned) places.now sums.now × (46035 ≤ length out.old) }
     ensures puts { Puts (text_for (answer_of planned) places.now sums.now) out.old 0 result out.new }
     ensures upper_bound { result ≤ length out.new }
 {
     match planned {
-        Planned::Refused(e) => text::put_refusal(contract::number_of(e), out),
-        Planned::Impossible => text::put_refusal(9, out),
-        Planned::Steps(n) => text::put_plan(n, places, sums, out),
+        Ok(n) => text::put_plan(n, places, sums, out),
+        Err(PlanError::Impossible) => text::put_refusal(IMPOSSIBLE, out),
+        Err(PlanError::Refused(e)) => text::put_refusal(u32::from(e), out),
     }
 }
 

@@ -22,10 +22,9 @@ use Rattle.contract.specs.Parse.{sized}
 use Rattle.contract.specs.Table.{Layout, Grid, part, units_of, cells_of, table_contract, table_end}
 use Rattle.contract.specs.declared.Form.TheVariants.{Table}
 use Rattle.contract.proofs.ParsedValid.TableValid.{cells_length}
-use Rattle.record.specs.View.Answer.{acceptance}
+use Rattle.record.specs.View.Answer.{header_with}
 use Rattle.record.specs.View.Table.{Items, Laid, Within, RisesIs, Filled, grid_of, given_in, given_rise, grid_cells}
 use Rattle.record.specs.declared.table.Grid as code
-use Rattle.record.specs.declared.Reply.{Reply}
 use Rattle.record.proofs.TableLaws.{column_bytes}
 
 units_length : {s : List ℕ} (t : Layout) → Items s t.units t.units_end → length (units_of s t) ≡ t.units_end - t.units
@@ -95,7 +94,7 @@ said_cells s h t a b e f = simp (e, f, cells_length)
 -- the header of a table's contract
 pub table_header : {s us : List ℕ} (h : Head) (t : Layout) → Items s t.units t.units_end → h.form ≡ Table
     → us ≡ column 1 s t.units 1 (t.units_end - t.units) ++ replicate (8 - (t.units_end - t.units)) 0
-    → acceptance h (t.units_end - t.units) us ≡ record { reply = Reply.Accepted; header = header_of (table_contract s h t) }
+    → header_with h (t.units_end - t.units) us ≡ header_of (table_contract s h t)
 unfolding table_contract
 table_header {s} {us} h t p e q =
     let n : ℕ = t.units_end - t.units in

@@ -1,14 +1,13 @@
 -- The counts of a header: what they say where they are in range, and the refusals of what is too short for them. Assumes nothing.
-use mathlib.Core.Path.{◌≡◌, refl, ◌∙◌}
-use mathlib.Core.Bool.{Bool, true, false, cond, and-true, and-false, and-eq-true_iff}
+use mathlib.Core.Path.{◌≡◌, refl}
+use mathlib.Core.Bool.{Bool, true, false, and-false, and-eq-true_iff}
 use mathlib.Core.List.{List}
-use Prim.Native.Nat.{ℕ, zero, suc, ◌≤◌, ◌<◌}
+use Prim.Native.Nat.{ℕ, ◌≤◌, ◌<◌}
 use native.Mathlib.Omega.{arith}
-use borrow.Author.Tests.{lt-ltb, le-leb, lt-leb, leb-true, ltb-true}
-use lib.Dec.{ltb}
+use borrow.Author.Tests.{lt-ltb, le-leb, le-ltb, lt-leb, leb-true}
+use Rattle.std.proofs.Common.{Result, Some, None}
 use lib.ListN.{length, take}
 use lib.Seq.{length-take-le}
-use Rattle.grid.proofs.RowLaws.{rows_pos}
 use Rattle.contract.specs.Res.{refused}
 use Rattle.contract.specs.Contract.{units_in, entries_in}
 use Rattle.contract.specs.Valid.{in_range}
@@ -16,15 +15,10 @@ use Rattle.contract.specs.Serialize.{record_of, writing}
 use Rattle.contract.specs.declared.Form.{Form}
 use Rattle.contract.specs.declared.Form.TheVariants.{Ladder, UnitPrices, Table}
 use Rattle.contract.specs.declared.Header.{Header}
-use Rattle.record.specs.View.Write.{counted, items_in, contract_with, Counted, Replies}
-use Rattle.record.specs.declared.Written.{Written}
+use Rattle.record.specs.View.Write.{counted, items_in, contract_with, Replies}
+use Rattle.contract.specs.declared.Refusal.{Refusal}
 
 -- ---- how many there are
-
--- a count of 0 needs no test of its own
-pub none_or_some : (n : ℕ) → n ≡ cond (ltb 0 n) n 0
-none_or_some zero = refl
-none_or_some (suc n) = rw (lt-ltb 0 (suc n) (omega arith))
 
 -- the largest count
 abbrev pub most_of : Form → ℕ
@@ -32,21 +26,19 @@ most_of Ladder = 1000
 most_of UnitPrices = 8
 most_of Table = 4
 
-pub over : (f : Form) (n : ℕ) (us : List ℕ) → most_of f < n → 0 ≡ counted f n us
+pub range_over : (f : Form) (n : ℕ) (us : List ℕ) → most_of f < n → in_range f n us ≡ false
 unfolding in_range
-over Ladder n us l = simp (lt-leb n 1000 l, and-false)
-over UnitPrices n us l = simp (lt-leb n 8 l, and-false)
-over Table n us l = simp (lt-leb n 4 l, and-false)
+range_over Ladder n us l = simp (lt-leb n 1000 l, and-false)
+range_over UnitPrices n us l = simp (lt-leb n 8 l, and-false)
+range_over Table n us l = simp (lt-leb n 4 l, and-false)
 
-pub ladder_counted : (n : ℕ) (us : List ℕ) → n ≤ 1000 → n ≡ counted Ladder n us
+pub ladder_none : (n : ℕ) (us : List ℕ) → n < 1 → in_range Ladder n us ≡ false
 unfolding in_range
-ladder_counted n us l = simp (le-leb n 1000 l, and-true) (none_or_some n)
+ladder_none n us l = simp (le-ltb 0 n (omega arith))
 
-entries_pos : (f : Form) (n : ℕ) (us : List ℕ) → in_range f n (units_in f n us) ≡ true → 0 < entries_in f n us
+pub ladder_some : (n : ℕ) (us : List ℕ) → 1 ≤ n → n ≤ 1000 → in_range Ladder n us ≡ true
 unfolding in_range
-entries_pos Ladder n us r = ltb-true 0 n (simp and-eq-true_iff at r).0
-entries_pos UnitPrices n us r = ltb-true 0 n (simp and-eq-true_iff at r).0.0.0
-entries_pos Table n us r = rows_pos (take n us)
+ladder_some n us a b = simp (lt-ltb 0 n a, le-leb n 1000 b)
 
 -- ---- the units that are counted
 
@@ -71,21 +63,19 @@ pub record InRange (h : Header) (n : ℕ) : Type 0 where
   pub range : in_range h.form h.count (units_in h.form h.count h.units) ≡ true
   pub entries : n ≡ entries_in h.form h.count h.units
 
-pub in_range_lem : (h : Header) (n : ℕ) → n ≡ counted h.form h.count h.units → (n ≡ 0 → ⊥) → InRange h n
-in_range_lem h n e some = go (in_range h.form h.count (units_in h.form h.count h.units)) refl
+pub counted_some : (h : Header) {n : ℕ} → counted h ≡ Some n → InRange h n
+counted_some h {n} e = go (in_range h.form h.count (units_in h.form h.count h.units)) refl
   where
     go : (t : Bool) → in_range h.form h.count (units_in h.form h.count h.units) ≡ t → InRange h n
-    go true r = record { range = r; entries = rw r at e }
-    go false r = absurd (some (rw r at e))
+    go true r = let same : Some (entries_in h.form h.count h.units) ≡ Some n = rw r at e in record { range = r; entries = cc }
+    go false r = let none : None ≡ Some n = rw r at e in cc
 
-pub out_of_range : (h : Header) (cs vs : List ℕ) (room : ℕ) → counted h.form h.count h.units ≡ 0 → writing h cs vs room ≡ refused 5
+pub counted_none : (h : Header) (cs vs : List ℕ) (room : ℕ) → counted h ≡ None → writing h cs vs room ≡ refused 5
 unfolding writing
-out_of_range h cs vs room e = go (in_range h.form h.count (units_in h.form h.count h.units)) refl
+counted_none h cs vs room e = go (in_range h.form h.count (units_in h.form h.count h.units)) refl
   where
     go : (t : Bool) → in_range h.form h.count (units_in h.form h.count h.units) ≡ t → writing h cs vs room ≡ refused 5
-    go true r =
-        let none : entries_in h.form h.count h.units ≡ 0 = rw r at e in
-        absurd (omega (arith, entries_pos h.form h.count h.units r))
+    go true r = let some : Some (entries_in h.form h.count h.units) ≡ None = rw r at e in cc
     go false r = rw r
 
 pub items_few : {h : Header} {n : ℕ} → InRange h n → length h.units ≡ 8 → items_in h.form h.count ≤ length h.units
@@ -101,17 +91,7 @@ module _ {h : Header} {n : ℕ} (r : InRange h n) (cs vs : List ℕ) where
   values_short room c l = rw (r.range, ← r.entries, le-leb n (length cs) c, lt-leb n (length vs) l)
 
   module _ (c : n ≤ length cs) (v : n ≤ length vs) where
-    pub cut : length h.units ≡ 8 → Counted h (take (items_in h.form h.count) h.units) (take n cs) (take n vs)
-    cut e =
-        record {
-          eight = e;
-          range = rw (items_are h.form h.count h.units) r.range;
-          units_are = items_are h.form h.count h.units;
-          costs_counted = length-take-le n cs c ∙ r.entries;
-          values_counted = length-take-le n vs v ∙ r.entries;
-        }
-
-    pub writes_cut : {out out' : List ℕ} {w : Written}
+    pub writes_cut : {out out' : List ℕ} {w : Result ℕ Refusal}
         → Replies (record_of (contract_with h (take (items_in h.form h.count) h.units) (take n cs) (take n vs)) (length out)) out w out'
         → Replies (writing h cs vs (length out)) out w out'
     unfolding writing

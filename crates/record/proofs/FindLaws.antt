@@ -8,11 +8,14 @@ use native.Mathlib.Nat.{zero-add, add-zero, one-mul}
 use native.Mathlib.Omega.{arith}
 use lib.Dec.{eqb}
 use lib.ListN.{length}
+use Rattle.std.proofs.Common.{Result}
+use Rattle.std.specs.Result.{IsErrAnd}
+use Rattle.std.proofs.lemmas.Result.{err_from_is_err_and}
 use Rattle.area.specs.Entries.{column}
 use Rattle.area.proofs.Laws.{column_zero, column_suc}
 use Rattle.grid.specs.Rows.{rising}
 use Rattle.contract.specs.Res.{Res, refused, ok, bind}
-use Rattle.contract.specs.Contract.{Contract}
+use Rattle.contract.specs.Contract.{Contract, number_of}
 use Rattle.contract.specs.Field.{Head, head_at}
 use Rattle.contract.specs.Parse.{parse, body_at, reading}
 use Rattle.contract.specs.Segments.{Sums, from, cost_value, segment, segments, segment_count, segment_contract, segment_body}
@@ -20,12 +23,14 @@ use Rattle.contract.specs.Serialize.{form_bits}
 use Rattle.contract.specs.Table.{table_at, table_contract, table_end, table_body, units_of, cells_of}
 use Rattle.contract.specs.Valid.{sum}
 use Rattle.contract.specs.declared.Form.{Form}
+use Rattle.contract.specs.declared.Refusal.{Refusal}
 use Rattle.contract.proofs.FromHeader.{most_entries, reading_all}
 use Rattle.contract.proofs.ParsedValid.ResLaws.{never, refused_inv, ok_inv, bind_inv, test_inv, Gives, passed}
 use Rattle.contract.proofs.ParsedValid.FieldLaws.{amount_gives}
-use Rattle.record.specs.Find.{LadderFound, sought_at, sought, HeadFound, OtherFound}
+use Rattle.record.specs.Find.{Finds, LadderFound, sought_at, sought, HeadFound, OtherFound}
 use Rattle.record.specs.View.Head.{LadderHead}
-use Rattle.record.specs.View.Segments.{Found, found, ToEnd}
+use Rattle.record.specs.View.Segments.{Found as Segments, found, ToEnd}
+use Rattle.record.specs.declared.Found.{Found}
 use Rattle.record.proofs.AnswerLaws.{parse_form}
 use Rattle.record.proofs.LadderLaws.{unit}
 use Rattle.record.proofs.SegmentLaws.{body_found}
@@ -57,11 +62,11 @@ units_add s (suc n) c d e =
     record { cost = rw column_suc (omega (arith, rest.cost)); value = rw column_suc (omega (arith, value)) }
 
 -- the totals of the segments found are the sums of their costs and values
-record Summed (s : List ℕ) (r : Found) : Type 0 where
+record Summed (s : List ℕ) (r : Segments) : Type 0 where
   cost : r.cost ≡ sum (column 4 s r.first 8 r.count)
   value : r.value ≡ sum (column 4 s (r.first + 4) 8 r.count)
 
-found_summed : (s : List ℕ) (i : ℕ) (r : Found) → found false s i ≡ ok r → Summed s r
+found_summed : (s : List ℕ) (i : ℕ) (r : Segments) → found false s i ≡ ok r → Summed s r
 unfolding found
 found_summed s i r e =
     let (n, _, e₁) = bind_inv (segment_count false s i) _ e in
@@ -75,19 +80,19 @@ found_summed s i r e =
 module _ {s : List ℕ} {h : Head} (g : LadderHead s h) where
   -- the record says the contract of the segments found
   body : parse s ≡ bind (found false s h.next) (λ r. ok (segment_contract false s h r.count r.first))
-  body = parse_form s h Form.Ladder g.said g.read.form_is ∙ body_found false s h
+  body = parse_form s h Form.Ladder g.said g.form_is ∙ body_found false s h
 
   pub ladder_refused : {n : ℕ} → found false s h.next ≡ refused n → sought s ≡ refused n
   unfolding sought
-  ladder_refused e = rw (g.said, g.read.form_is, body_found, e)
+  ladder_refused e = rw (g.said, g.form_is, body_found, e)
 
-  pub ladder_found : {r : Found} → found false s h.next ≡ ok r → ToEnd false s r
+  pub ladder_found : {r : Segments} → found false s h.next ≡ ok r → ToEnd false s r
       → LadderFound s (record { price = h.price; supplier = h.supplier; buyer = h.buyer; first = r.first; count = r.count; cost = r.cost; value = r.value })
   unfolding segment_contract
   ladder_found {r} e t =
       let sums : Summed s r = found_summed s h.next r e in
       record {
-        says = body ∙ rw (e, g.read.form_is, add-zero);
+        says = body ∙ rw (e, g.form_is, add-zero);
         ends = t.ends;
         few = t.few;
         cost_is = sums.cost;
@@ -183,3 +188,7 @@ sought_refused s {n} e = go (head_at s) e
     go : (r : Res Head) → bind r (λ h. sought_at h.form s h) ≡ refused n → bind r (λ h. body_at h.form s h) ≡ refused n
     go (refused m) e = ap refused (refused_inv e)
     go (ok h) e = at h.form h e
+
+-- at the exit of a `?`
+pub finds_on : (s : List ℕ) (r : Result Found Refusal) (e : Refusal) → sought s ≡ refused (number_of e) → IsErrAnd r (λ d. d ≡ e) → Finds s r
+finds_on s r e h q = let p = err_from_is_err_and r q in rw (p.1, p.2) h

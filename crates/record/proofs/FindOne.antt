@@ -7,6 +7,7 @@ use Prim.Native.Nat.{ℕ}
 use native.Mathlib.Omega.{arith}
 use lib.Dec.{eqb}
 use lib.ListN.{length}
+use Rattle.std.proofs.Common.{Result, Ok, Err}
 use Rattle.area.proofs.Laws.{column_length}
 use Rattle.contract.specs.Res.{refused}
 use Rattle.contract.specs.Contract.{Contract, number_of}
@@ -87,20 +88,25 @@ two_forms s o p =
     let e : ◌≡◌ {A = ℕ} 2 4 = ap form_bits (same_form Form.UnitPrices Form.Table s o p) in
     absurd (omega arith)
 
-pub found_one : (s : List ℕ) (a b : Found) → Finds s a → Finds s b → a ≡ b
-found_one s (Found.Refused e) (Found.Refused f) p q = ap Found.Refused (same_refusal s e f p q)
-found_one s (Found.Refused e) (Found.Ladder l) p q = refused_ladder s l p q
-found_one s (Found.Refused e) Found.UnitPrices p q = refused_head Form.UnitPrices s p q
-found_one s (Found.Refused e) Found.Table p q = refused_head Form.Table s p q
-found_one s (Found.Ladder l) (Found.Refused e) p q = refused_ladder s l q p
-found_one s (Found.Ladder l) (Found.Ladder m) p q = ap Found.Ladder (same_ladder s l m p q)
-found_one s (Found.Ladder l) Found.UnitPrices p q = ladder_other s l p (inl q)
-found_one s (Found.Ladder l) Found.Table p q = ladder_other s l p (inr q)
-found_one s Found.UnitPrices (Found.Refused e) p q = refused_head Form.UnitPrices s q p
-found_one s Found.UnitPrices (Found.Ladder l) p q = ladder_other s l q (inl p)
-found_one s Found.UnitPrices Found.UnitPrices p q = refl
-found_one s Found.UnitPrices Found.Table p q = two_forms s p q
-found_one s Found.Table (Found.Refused e) p q = refused_head Form.Table s q p
-found_one s Found.Table (Found.Ladder l) p q = ladder_other s l q (inr p)
-found_one s Found.Table Found.UnitPrices p q = two_forms s q p
-found_one s Found.Table Found.Table p q = refl
+found_same : (s : List ℕ) (a b : Found) → Finds s (Ok a) → Finds s (Ok b) → a ≡ b
+found_same s (Found.Ladder l) (Found.Ladder m) p q = ap Found.Ladder (same_ladder s l m p q)
+found_same s (Found.Ladder l) Found.UnitPrices p q = ladder_other s l p (inl q)
+found_same s (Found.Ladder l) Found.Table p q = ladder_other s l p (inr q)
+found_same s Found.UnitPrices (Found.Ladder l) p q = ladder_other s l q (inl p)
+found_same s Found.UnitPrices Found.UnitPrices p q = refl
+found_same s Found.UnitPrices Found.Table p q = two_forms s p q
+found_same s Found.Table (Found.Ladder l) p q = ladder_other s l q (inr p)
+found_same s Found.Table Found.UnitPrices p q = two_forms s q p
+found_same s Found.Table Found.Table p q = refl
+
+-- what is found is not refused
+not_refused : (s : List ℕ) (a : Found) {n : ℕ} → sought s ≡ refused n → Finds s (Ok a) → {X : Type 0} → X
+not_refused s (Found.Ladder l) p q = refused_ladder s l p q
+not_refused s Found.UnitPrices p q = refused_head Form.UnitPrices s p q
+not_refused s Found.Table p q = refused_head Form.Table s p q
+
+pub found_one : (s : List ℕ) (a b : Result Found Refusal) → Finds s a → Finds s b → a ≡ b
+found_one s (Err e) (Err f) p q = ap Err (same_refusal s e f p q)
+found_one s (Err e) (Ok b) p q = not_refused s b p q
+found_one s (Ok a) (Err e) p q = not_refused s a q p
+found_one s (Ok a) (Ok b) p q = ap Ok (found_same s a b p q)

@@ -1,5 +1,5 @@
 -- A ladder whose units all lie within the record: the totals decide. Assumes nothing.
-use mathlib.Core.Path.{◌≡◌, refl, ap, ◌∙◌}
+use mathlib.Core.Path.{◌≡◌, refl, ◌∙◌}
 use mathlib.Core.Bool.{Bool, true, false}
 use mathlib.Core.List.{List}
 use Prim.Native.Nat.{ℕ, zero, suc, ◌+◌, ◌-◌, ◌*◌, ◌≤◌, ◌<◌}
@@ -15,7 +15,7 @@ use Rattle.contract.specs.Contract.{limit}
 use Rattle.contract.specs.Field.{amount}
 use Rattle.contract.specs.Segments.{Sums, cost_value, segment, segments}
 use Rattle.record.specs.View.Segments.{Reached, Whole, lifted}
-use Rattle.record.proofs.Laws.{field_ok, one_more}
+use Rattle.record.proofs.Laws.{field_ok, one_more, none_left}
 
 -- ---- an amount that lies within the record
 
@@ -53,13 +53,13 @@ lifts s (suc n) c =
     record { at = omega arith; units = r.units; cost = omega arith; value = omega arith }
 
 -- one unit more, and none left
-pub lifted_next : (s : List ℕ) (n : ℕ) (c : Sums) → 0 < n → lifted s n c ≡ lifted s (n - 1) (unit s c)
+pub lifted_next : (s : List ℕ) (n k : ℕ) (c : Sums) → k < n → lifted s (n - k) c ≡ lifted s (n - (k + 1)) (unit s c)
 unfolding lifted
-lifted_next s n c h = ap (λ (k : ℕ). lifted s k c) (one_more n h)
+lifted_next s n k c h = rw (one_more n k h)
 
-pub lifted_end : (s : List ℕ) (n : ℕ) (c : Sums) → n ≤ 0 → lifted s n c ≡ c
+pub lifted_end : (s : List ℕ) (n k : ℕ) (c : Sums) → n ≤ k → lifted s (n - k) c ≡ c
 unfolding lifted
-lifted_end s n c h = let z : n ≡ 0 = omega arith in rw z
+lifted_end s n k c h = rw none_left
 
 -- n units are refused exactly if a total is above the limit
 whole_ladder : (s : List ℕ) (n : ℕ) (c : Sums) → c.at + n * 8 ≤ length s → c.cost ≤ limit → c.value ≤ limit
@@ -106,7 +106,7 @@ module _ {s : List ℕ} {n : ℕ} {c d : Sums} (w : Whole s n c) (e : d ≡ lift
   pub both_kept : d.cost ≤ limit → d.value ≤ limit → segments false s n c ≡ ok d
   both_kept h g = decided ∙ simp (le-leb _ _ h, le-leb _ _ g)
 
-  pub reached : d.cost ≤ limit → d.value ≤ limit → Reached s (c.at + n * 8) (ok d)
+  pub reached : d.cost ≤ limit → d.value ≤ limit → Reached s (c.at + n * 8) d
   reached h g =
       let r : Lifts n c d = rw e (lifts s n c) in
-      (r.at, (omega (arith, w.within), record { units = omega (arith, w.kept.units); cost = h; value = g }))
+      record { at = r.at; within = omega (arith, w.within); kept = record { units = omega (arith, w.kept.units); cost = h; value = g } }

@@ -3,7 +3,7 @@ use mathlib.Core.Path.{◌≡◌, refl, sym, ap, ◌∙◌}
 use mathlib.Core.Logic.{◌⊎◌, inl, inr}
 use mathlib.Core.Bool.{Bool, true, false, cond}
 use mathlib.Core.List.{List, [], ◌∷◌, ◌++◌, flat_map, append_assoc, append-nil}
-use Prim.Native.Nat.{ℕ, zero, suc, ◌+◌, ◌*◌, ◌≤◌, ◌<◌}
+use Prim.Native.Nat.{ℕ, zero, suc, ◌+◌, ◌-◌, ◌*◌, ◌≤◌, ◌<◌}
 use native.Mathlib.Nat.{le_of_suc-le-suc}
 use native.Mathlib.Numerals.{add-one}
 use native.Mathlib.Decide.{le_ind}
@@ -11,7 +11,8 @@ use native.Mathlib.Omega.{arith}
 use borrow.Author.Tests.{lt-ltb, le-ltb, ltb-true, ltb-false}
 use lib.Dec.{ltb}
 use lib.ListN.{length, get_or, drop, replicate, length-append, drop_of_length-le}
-use lib.Seq.{drop-cons}
+use lib.Seq.{drop-cons, sets, sets-eq}
+use borrow.Rule.Slice.PartMut.{put_mid, Post-is}
 use Rattle.area.specs.Entries.{digits, up_to}
 use Rattle.area.proofs.Laws.{digits_length, up_to_length, up_to_at}
 use Rattle.area.proofs.PutLaws.{Left, left_room, room_second}
@@ -108,9 +109,9 @@ module _ (us cs vs : List ℕ) (r : Run us cs vs) where
 
 -- ---- bytes, and numbers of one width
 
--- one byte more
-pub byte_turn : (l : List ℕ) (i : ℕ) → i < length l → drop i l ≡ (get_or l i 0 ∷ []) ++ drop (i + 1) l
-byte_turn l i h = rw (add-one, drop-cons l i 0 h)
+-- bytes copied into their place
+pub pasted : (s ys : List ℕ) (i : ℕ) → i + length ys ≤ length s → put_mid i (i + length ys - i) s ys ≡ sets s i ys
+pasted s ys i h = rw (Post-is i (i + length ys) s (omega arith), sets-eq ys s i (omega arith), append_assoc)
 
 -- one number more
 pub flat_turn : (w : ℕ) (l : List ℕ) (i : ℕ) → i < length l → flat_map (digits w) (drop i l) ≡ digits w (get_or l i 0) ++ flat_map (digits w) (drop (i + 1) l)

@@ -6,6 +6,7 @@ use Prim.Native.Nat.{ℕ, ◌≤◌}
 use native.Mathlib.Omega.{arith}
 use borrow.Author.Tests.{leb-true}
 use lib.Dec.{leb}
+use Rattle.std.proofs.Common.{Result}
 use lib.ListN.{length, take}
 use lib.Seq.{length-take-le, take-take}
 use Rattle.grid.specs.Rows.{rows_of}
@@ -19,7 +20,7 @@ use Rattle.contract.specs.declared.Header.{Header}
 use Rattle.contract.proofs.RoundTrip.{round_trip}
 use Rattle.record.specs.Promise.{ReadBack, Writes}
 use Rattle.record.specs.View.Write.{Replies}
-use Rattle.record.specs.declared.Written.{Written}
+use Rattle.contract.specs.declared.Refusal.{Refusal}
 use Rattle.record.proofs.CountLaws.{items_length}
 
 -- a form's own count, of the units and costs that a header counts
@@ -76,5 +77,5 @@ reads_back h cs vs room e = back_tests k _ _ _ _ _ _ (leb (length (serialize k))
         }
 
 -- the writer's promise, from the reply and the output area
-pub promised : {h : Header} {cs vs out out' : List ℕ} {r : Written} → length h.units ≡ 8 → Replies (writing h cs vs (length out)) out r out' → Writes h cs vs out r out'
+pub promised : {h : Header} {cs vs out out' : List ℕ} {r : Result ℕ Refusal} → length h.units ≡ 8 → Replies (writing h cs vs (length out)) out r out' → Writes h cs vs out r out'
 promised {h} {cs} {vs} {out} e p = record { answer = p.answer; bytes_after = p.bytes_after; read_back = reads_back h cs vs (length out) e }

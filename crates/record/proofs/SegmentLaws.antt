@@ -1,5 +1,5 @@
 -- Laws of a run of segments. Assumes nothing.
-use mathlib.Core.Path.{◌≡◌, refl, sym, ap, ◌∙◌}
+use mathlib.Core.Path.{◌≡◌, refl, sym, ◌∙◌}
 use mathlib.Core.Bool.{Bool, true, false}
 use mathlib.Core.List.{List}
 use Prim.Native.Nat.{ℕ, ◌+◌, ◌-◌, ◌*◌, ◌≤◌, ◌<◌}
@@ -13,32 +13,31 @@ use Rattle.contract.specs.Contract.{Contract, header_of}
 use Rattle.contract.specs.Field.{At, Head, ranged}
 use Rattle.contract.specs.Parse.{sized}
 use Rattle.contract.specs.Segments.{Sums, from, segment, segments, segment_count, segment_contract, segment_body, size, skip}
-use Rattle.record.specs.View.Answer.{acceptance}
+use Rattle.record.specs.View.Answer.{header_with}
 use Rattle.record.specs.View.Segments.{wide, most, Found, found, padded_units, segment_form}
 use Rattle.record.specs.View.Spaced.{Spaced}
-use Rattle.record.specs.declared.Reply.{Reply}
-use Rattle.record.proofs.Laws.{one_more}
+use Rattle.record.proofs.Laws.{one_more, none_left}
 use Rattle.record.proofs.AnswerLaws.{sized_stop}
 
 -- one segment more, one that is refused, and none left
-pub segments_next : (p : Bool) (s : List ℕ) (n : ℕ) (c d : Sums) → 0 < n → segment p s c ≡ ok d → segments p s n c ≡ segments p s (n - 1) d
+pub segments_next : (p : Bool) (s : List ℕ) (n k : ℕ) (c d : Sums) → k < n → segment p s c ≡ ok d → segments p s (n - k) c ≡ segments p s (n - (k + 1)) d
 unfolding segments
-segments_next p s n c d h e = ap (λ (k : ℕ). segments p s k c) (one_more n h) ∙ simp e
+segments_next p s n k c d h e = rw (one_more n k h) (simp e)
 
-pub segments_stop : (p : Bool) (s : List ℕ) (n : ℕ) (c : Sums) {k : ℕ} → 0 < n → segment p s c ≡ refused k → segments p s n c ≡ refused k
+pub segments_stop : (p : Bool) (s : List ℕ) (n k : ℕ) (c : Sums) {r : ℕ} → k < n → segment p s c ≡ refused r → segments p s (n - k) c ≡ refused r
 unfolding segments
-segments_stop p s n c h e = ap (λ (k : ℕ). segments p s k c) (one_more n h) ∙ simp e
+segments_stop p s n k c h e = rw (one_more n k h) (simp e)
 
-pub segments_end : (p : Bool) (s : List ℕ) (n : ℕ) (c : Sums) → n ≤ 0 → segments p s n c ≡ ok c
+pub segments_end : (p : Bool) (s : List ℕ) (n k : ℕ) (c : Sums) → n ≤ k → segments p s (n - k) c ≡ ok c
 unfolding segments
-segments_end p s n c h = let z : n ≡ 0 = omega arith in rw z
+segments_end p s n k c h = rw none_left
 
 -- the bytes of what is left
-pub one_less : (n k : ℕ) → 0 < n → (n - 1) * k + k ≡ n * k
-one_less n k h = sym (ap (λ (m : ℕ). m * k) (one_more n h) ∙ suc-mul (n - 1) k)
+pub bytes_next : (n k w : ℕ) → k < n → (n - (k + 1)) * w + w ≡ (n - k) * w
+bytes_next n k w h = rw (one_more n k h) (sym (suc-mul (n - (k + 1)) w))
 
-pub none_left : (n k : ℕ) → n ≤ 0 → n * k ≡ 0
-none_left n k h = let z : n ≡ 0 = omega arith in rw z (zero-mul k)
+pub bytes_end : (n k w : ℕ) → n ≤ k → (n - k) * w ≡ 0
+bytes_end n k w h = rw none_left (zero-mul w)
 
 -- the count of segments is a field of its width and range
 pub count_ranged : (p : Bool) (s : List ℕ) (i : ℕ) → segment_count p s i ≡ ranged (wide p) (most p) s i
@@ -99,7 +98,7 @@ few_segments true n h = omega arith
 
 -- the header of a contract of segments
 pub segment_header : (p : Bool) (s : List ℕ) (h : Head) (n i : ℕ) → h.form ≡ segment_form p
-    → acceptance h n (padded_units p s i n) ≡ record { reply = Reply.Accepted; header = header_of (segment_contract p s h n i) }
+    → header_with h n (padded_units p s i n) ≡ header_of (segment_contract p s h n i)
 unfolding segment_contract
 segment_header false s h n i e = rw (e, column_length)
 segment_header true s h n i e = rw (e, column_length)

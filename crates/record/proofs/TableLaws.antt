@@ -1,15 +1,18 @@
 -- Laws of a table's fields. Assumes nothing.
-use mathlib.Core.Path.{◌≡◌, refl, sym, ap, ◌∙◌}
+use native.Mathlib.Nat.{zero-add}
+use mathlib.Core.Path.{◌≡◌, refl, sym, ◌∙◌}
 use mathlib.Core.Bool.{Bool, true, false, cond}
 use mathlib.Core.List.{List, ◌++◌}
 use Prim.Native.Nat.{ℕ, zero, suc, ◌+◌, ◌-◌, ◌≤◌, ◌<◌}
-use native.Mathlib.Nat.{zero-add}
 use native.Mathlib.Numerals.{add-one}
 use native.Mathlib.Decide.{dec_lt}
 use native.Mathlib.Omega.{arith}
 use lib.Dec.{leb}
-use lib.ListN.{length, get_or, set, take, drop, replicate, length-take, length-drop, get_or-eq_default}
-use lib.Seq.{drop-cons, paste-suc, take_at, get_or-take, get_or-drop, length-take-le}
+use Rattle.std.proofs.Common.{Option, Some, None, Ok}
+use Rattle.std.specs.Option.{ok_or}
+use Rattle.contract.specs.declared.Refusal.{Refusal}
+use lib.ListN.{length, get_or, take, drop, replicate, length-take, length-drop, get_or-eq_default, set}
+use lib.Seq.{drop-cons, take_at, get_or-take, get_or-drop, length-take-le, paste-suc}
 use borrow.Author.Tests.{leb-true}
 use Rattle.contract.specs.Res.{refused, ok}
 use Rattle.contract.specs.Field.{At, ranged}
@@ -17,24 +20,23 @@ use Rattle.area.specs.Entries.{Bytes, num, column}
 use Rattle.area.proofs.Laws.{column_length, column_zero, column_suc}
 use Rattle.grid.specs.Rows.{rows_of}
 use Rattle.grid.specs.Map.{map_size, bits_from, bit_count, standing}
-use Rattle.grid.proofs.RowLaws.{rows_pos}
 use Rattle.grid.proofs.MapLaws.{count_rows}
 use Rattle.contract.specs.Table.{units_at, part}
 use Rattle.record.specs.View.Table.{Items, Counted}
-use Rattle.record.proofs.Laws.{one_more}
+use Rattle.record.proofs.Laws.{one_more, none_left, some_of}
 
 -- one units field more, one that is refused, and none left
-pub units_next : (s : List ℕ) (n i : ℕ) (a : At) → 0 < n → ranged 1 255 s i ≡ ok a → units_at s n i ≡ units_at s (n - 1) a.next
+pub units_next : (s : List ℕ) (n k i : ℕ) (a : At) → k < n → ranged 1 255 s i ≡ ok a → units_at s (n - k) i ≡ units_at s (n - (k + 1)) a.next
 unfolding units_at
-units_next s n i a h e = ap (λ (k : ℕ). units_at s k i) (one_more n h) ∙ simp e
+units_next s n k i a h e = rw (one_more n k h) (simp e)
 
-pub units_stop : (s : List ℕ) (n i : ℕ) {k : ℕ} → 0 < n → ranged 1 255 s i ≡ refused k → units_at s n i ≡ refused k
+pub units_stop : (s : List ℕ) (n k i : ℕ) {r : ℕ} → k < n → ranged 1 255 s i ≡ refused r → units_at s (n - k) i ≡ refused r
 unfolding units_at
-units_stop s n i h e = ap (λ (m : ℕ). units_at s m i) (one_more n h) ∙ simp e
+units_stop s n k i h e = rw (one_more n k h) (simp e)
 
-pub units_end : (s : List ℕ) (n i : ℕ) → n ≤ 0 → units_at s n i ≡ ok i
+pub units_end : (s : List ℕ) (n k i : ℕ) → n ≤ k → units_at s (n - k) i ≡ ok i
 unfolding units_at
-units_end s n i h = let z : n ≡ 0 = omega arith in rw z
+units_end s n k i h = rw none_left
 
 -- what is left of zeros
 pub drop_zeros : (n k : ℕ) → drop {A = ℕ} k (replicate n 0) ≡ replicate (n - k) 0
@@ -59,12 +61,12 @@ pub units_part : (s : List ℕ) (i e : ℕ) → i ≤ e → e ≤ length s → t
 units_part s i e h l = take_at (column 1 s i 1 (e - i)) _ (e - i) (column_length 1 s i 1 (e - i)) ∙ column_bytes s i (e - i) (omega arith)
 
 -- what the count of rows says: none for more than 128
-pub rows_none : (us : List ℕ) {n : ℕ} → n ≡ cond (leb (rows_of us) 128) (rows_of us) 0 → n ≡ 0 → leb (rows_of us) 128 ≡ false
-rows_none us {n} e z = go (leb (rows_of us) 128) refl
+rows_none : (us : List ℕ) {r : Option ℕ} → r ≡ cond (leb (rows_of us) 128) (Some (rows_of us)) None → r ≡ None → leb (rows_of us) 128 ≡ false
+rows_none us e z = go (leb (rows_of us) 128) refl
   where
     go : (b : Bool) → leb (rows_of us) 128 ≡ b → b ≡ false
     go false q = refl
-    go true q = let f : n ≡ rows_of us = rw q at e in absurd (omega (arith, rows_pos us))
+    go true q = let f : Some (rows_of us) ≡ None = sym (rw q at e) ∙ z in cc
 
 -- what a count of rows says
 pub record RowCount (us : List ℕ) (n : ℕ) : Type 0 where
@@ -72,12 +74,15 @@ pub record RowCount (us : List ℕ) (n : ℕ) : Type 0 where
   pub rows : n ≡ rows_of us
   pub few : n ≤ 128
 
-pub rows_some : (us : List ℕ) {n : ℕ} → n ≡ cond (leb (rows_of us) 128) (rows_of us) 0 → (n ≡ 0 → ⊥) → RowCount us n
-rows_some us {n} e z = go (leb (rows_of us) 128) refl
+rows_some : (us : List ℕ) {r : Option ℕ} {n : ℕ} → r ≡ cond (leb (rows_of us) 128) (Some (rows_of us)) None → r ≡ Some n → RowCount us n
+rows_some us {n = n} e z = go (leb (rows_of us) 128) refl
   where
     go : (b : Bool) → leb (rows_of us) 128 ≡ b → RowCount us n
-    go true q = let f : n ≡ rows_of us = rw q at e in record { test = q; rows = f; few = omega (arith, leb-true (rows_of us) 128 q) }
-    go false q = absurd (z (rw q at e))
+    go true q =
+        let some : Some n ≡ Some (rows_of us) = sym z ∙ rw q at e in
+        let f : n ≡ rows_of us = cc in
+        record { test = q; rows = f; few = omega (arith, leb-true (rows_of us) 128 q) }
+    go false q = let none : Some n ≡ None = sym z ∙ rw q at e in cc
 
 -- the units that were read have the counted front
 pub units_front : (s : List ℕ) (i d n : ℕ) {us : List ℕ} → us ≡ column 1 s i d n ++ replicate (8 - n) 0 → n ≡ length (take n us)
@@ -88,10 +93,16 @@ pub units_read : {s us : List ℕ} {i e : ℕ} → Items s i e → us ≡ column
 units_read {s} {us} {i} {e} p q = rw q (units_part s i e p.begin p.within)
 
 -- the rows counted are those of the units fields
-pub counted : {s us : List ℕ} {i e n : ℕ} → Items s i e → us ≡ column 1 s i 1 (e - i) ++ replicate (8 - (e - i)) 0
-    → n ≡ cond (leb (rows_of (take (e - i) us)) 128) (rows_of (take (e - i) us)) 0
-    → n ≡ cond (leb (rows_of (part i e s)) 128) (rows_of (part i e s)) 0
-counted p q h = rw (units_read p q) at h
+module _ {s us : List ℕ} {i e : ℕ} (p : Items s i e) (q : us ≡ column 1 s i 1 (e - i) ++ replicate (8 - (e - i)) 0) (r : Option ℕ)
+    (h : r ≡ cond (leb (rows_of (take (e - i) us)) 128) (Some (rows_of (take (e - i) us))) None) where
+  counted : r ≡ cond (leb (rows_of (part i e s)) 128) (Some (rows_of (part i e s))) None
+  counted = rw (units_read p q) at h
+
+  pub rows_read : (d : Refusal) {n : ℕ} → Ok n ≡ ok_or r d → RowCount (part i e s) n
+  rows_read d g = rows_some (part i e s) counted (some_of r d g)
+
+  pub rows_over : r ≡ None → leb (rows_of (part i e s)) 128 ≡ false
+  rows_over z = rows_none (part i e s) counted z
 
 -- and the items are as grid functions ask for them
 pub units_counted : {s us : List ℕ} {i e n : ℕ} → Items s i e → us ≡ column 1 s i 1 (e - i) ++ replicate (8 - (e - i)) 0

@@ -1,18 +1,20 @@
 -- Laws of the writer's tests, item by item and amount by amount. Assumes nothing.
-use mathlib.Core.Path.{◌≡◌, refl, sym, ◌∙◌}
-use mathlib.Core.Bool.{Bool, true, false, ◌&&◌, and-false, and_assoc}
+use mathlib.Core.Path.{◌≡◌, refl, sym, ap}
+use mathlib.Core.Bool.{Bool, true, false, ◌&&◌, and-true, and-false, and_assoc}
 use mathlib.Core.List.{List, [], ◌∷◌}
-use Prim.Native.Nat.{ℕ, zero, suc, ◌+◌, ◌-◌, ◌*◌, ◌^◌, ◌≤◌, ◌<◌}
-use native.Mathlib.Nat.{le-mul_of_pos_right, mul_comm, mul-le-mul_right}
+use Prim.Native.Nat.{ℕ, zero, suc, ◌+◌, ◌-◌, ◌*◌, ◌≤◌, ◌<◌}
+use native.Mathlib.Nat.{le-mul_of_pos_right, mul_comm}
 use native.Mathlib.Numerals.{add-one}
 use native.Mathlib.Omega.{arith}
-use borrow.Author.Tests.{lt-ltb, le-leb, lt-leb, leb-true, leb-false}
+use borrow.Author.Tests.{le-leb, lt-leb, leb-true, leb-false}
 use lib.Dec.{ltb, leb}
 use lib.ListN.{length, get_or, drop, replicate, length-replicate, drop_of_length-le}
 use lib.Seq.{drop-cons}
-use Rattle.contract.specs.Contract.{limit}
+use Rattle.std.specs.List.{list_all, sum_by}
+use Rattle.std.proofs.lemmas.List.Recursion.{is_sum_by}
+use Rattle.contract.specs.Contract.{Contract, limit}
 use Rattle.contract.specs.Table.{all_within}
-use Rattle.contract.specs.Valid.{units_in_range, sum, total, amounts_within}
+use Rattle.contract.specs.Valid.{units_in_range, sum, total, amounts_within, within_limit}
 use Rattle.contract.specs.declared.Form.TheVariants.{Ladder, UnitPrices}
 use Rattle.contract.proofs.FirstEntry.{units_first}
 use Rattle.record.specs.View.Write.{each}
@@ -21,23 +23,6 @@ use Rattle.record.proofs.PutLaws.{each_length, each_at, each_none, each_stated, 
 -- ---- item by item
 
 module _ (us : List ℕ) (i : ℕ) (h : i < length us) where
-  range_cons : units_in_range (drop i us) ≡ (ltb 0 (get_or us i 0) && leb (get_or us i 0) 255 && units_in_range (drop (i + 1) us))
-  unfolding units_in_range
-  range_cons = rw (add-one, drop-cons us i 0 h)
-
-  pub range_none : get_or us i 0 ≡ 0 → units_in_range (drop i us) ≡ false
-  range_none e = range_cons ∙ rw e
-
-  pub range_over : 255 < get_or us i 0 → units_in_range (drop i us) ≡ false
-  range_over l = range_cons ∙ simp (lt-leb (get_or us i 0) 255 l, and-false)
-
-  pub range_turn : (get_or us i 0 ≡ 0 → ⊥) → get_or us i 0 ≤ 255 → units_in_range (drop i us) ≡ units_in_range (drop (i + 1) us)
-  range_turn n l = range_cons ∙ rw (lt-ltb 0 (get_or us i 0) (omega arith), le-leb (get_or us i 0) 255 l)
-
-  pub sum_turn : sum (drop i us) ≡ get_or us i 0 + sum (drop (i + 1) us)
-  unfolding sum
-  sum_turn = rw (add-one, drop-cons us i 0 h)
-
   within_cons : all_within (drop i us) ≡ (leb (get_or us i 0) limit && all_within (drop (i + 1) us))
   unfolding all_within
   within_cons = rw (add-one, drop-cons us i 0 h)
@@ -46,24 +31,31 @@ module _ (us : List ℕ) (i : ℕ) (h : i < length us) where
   pub within_both : (b : Bool) {c : Bool} → c ≡ (b && leb (get_or us i 0) limit) → (c && all_within (drop (i + 1) us)) ≡ (b && all_within (drop i us))
   within_both b e = rw (e, within_cons) (and_assoc b (leb (get_or us i 0) limit) (all_within (drop (i + 1) us)))
 
-  pub within_over : limit < get_or us i 0 → all_within (drop i us) ≡ false
-  within_over l = within_cons ∙ rw (lt-leb (get_or us i 0) limit l)
-
-  pub within_turn : get_or us i 0 ≤ limit → all_within (drop i us) ≡ all_within (drop (i + 1) us)
-  within_turn l = within_cons ∙ rw (le-leb (get_or us i 0) limit l)
-
 module _ (us : List ℕ) (i : ℕ) (h : length us ≤ i) where
-  pub range_end : units_in_range (drop i us) ≡ true
-  unfolding units_in_range
-  range_end = rw (drop_of_length-le us {i = i} h)
-
-  pub sum_end : sum (drop i us) ≡ 0
-  unfolding sum
-  sum_end = rw (drop_of_length-le us {i = i} h)
-
   pub within_end : all_within (drop i us) ≡ true
   unfolding all_within
   within_end = rw (drop_of_length-le us {i = i} h)
+
+-- the same, as std's words say it
+pub range_all : (us : List ℕ) → list_all (λ u. ltb 0 u && leb u 255) us ≡ units_in_range us
+unfolding units_in_range
+range_all [] = refl
+range_all (u ∷ us) = ap (λ b. (ltb 0 u && leb u 255) && b) (range_all us)
+
+pub sum_all : (us : List ℕ) → sum us ≡ sum_by (λ n. n) us
+unfolding sum
+sum_all us = is_sum_by sum (λ n. n) refl (λ _ _. refl) us
+
+pub within_all : (xs : List ℕ) → list_all (λ v. leb v limit) xs ≡ all_within xs
+unfolding all_within
+within_all [] = refl
+within_all (x ∷ xs) = ap (λ b. leb x limit && b) (within_all xs)
+
+-- the test of a contract, part by part
+pub within_is : (k : Contract) → within_limit k
+    ≡ (all_within (k.price ∷ k.supplier ∷ k.buyer ∷ []) && (amounts_within k.form k.units k.costs && amounts_within k.form k.units k.values))
+unfolding within_limit all_within
+within_is k = simp (and_assoc, and-true)
 
 within_each : (xs : List ℕ) → ((r : ℕ) → r < length xs → get_or xs r 0 ≤ limit) → all_within xs ≡ true
 unfolding all_within
@@ -88,11 +80,6 @@ last_within xs h = go (leb (get_or xs (length xs - 1) 0) limit) refl
     go false e = sym (within_not xs (length xs - 1) (leb-false _ _ e))
 
 -- ---- the total
-
-pub product_lt : (u v : ℕ) → u < 2 ^ 16 → v < 2 ^ 32 → u * v < 2 ^ 48
-product_lt u v a b =
-    let less : u * v ≤ 65535 * v = mul-le-mul_right v (omega arith) in
-    omega arith
 
 -- the total of the amounts from amount i on
 abbrev pub total_from : List ℕ → List ℕ → ℕ → ℕ

@@ -9,6 +9,9 @@ use native.Mathlib.Omega.{arith}
 use borrow.Author.Tests.{lt-ltb, le-leb, lt-leb, leb-true, ltb-true}
 use lib.ListN.{length, take, length-append}
 use lib.Seq.{sets-eq}
+use Rattle.std.proofs.Common.{Result, Ok, Err}
+use Rattle.std.specs.Result.{IsErrAnd}
+use Rattle.std.proofs.lemmas.Result.{err_from_is_err_and}
 use Rattle.area.specs.Entries.{digits}
 use Rattle.grid.specs.Rows.{rows_of, rising}
 use Rattle.grid.specs.Map.{map_size, bit_count}
@@ -26,14 +29,17 @@ use Rattle.contract.specs.declared.Refusal.TheVariants.{Short}
 use Rattle.contract.proofs.Lengths.{digits_all_length, bits_are, grid_length}
 use Rattle.area.specs.Puts.{Puts}
 use Rattle.record.specs.View.Write.{items_in, contract_with, Counted, Shaped, Segmented, Tabled, head_bytes, Run, run_bytes, grid_with, Mapped, Replies}
-use Rattle.record.specs.declared.Written.{Written}
 use Rattle.record.proofs.PutLaws.{each_none, each_stated, run_length}
 use Rattle.record.proofs.CountLaws.{items_length}
 
 -- ---- replies
 
-pub refuses : (e : Refusal) {said : Res (List ℕ)} {out : List ℕ} → said ≡ refused (number_of e) → Replies said out (Written.Refused e) out
+pub refuses : (e : Refusal) {said : Res (List ℕ)} {out : List ℕ} → said ≡ refused (number_of e) → Replies said out (Err e) out
 refuses e h = record { answer = rw h; bytes_after = rw h }
+
+-- at the exit of a `?`
+pub refuses_on : (e : Refusal) {said : Res (List ℕ)} {out : List ℕ} {r : Result ℕ Refusal} → said ≡ refused (number_of e) → IsErrAnd r (λ d. d ≡ e) → Replies said out r out
+refuses_on e {r = r} h q = let p = err_from_is_err_and r q in rw (p.1, p.2) (refuses e h)
 
 -- a contract that passed every test but the output area's, and its record
 pub record Ready (k : Contract) (bytes : List ℕ) : Type 0 where
@@ -43,11 +49,11 @@ pub record Ready (k : Contract) (bytes : List ℕ) : Type 0 where
   pub bytes_are : serialize k ≡ bytes
 
 module _ {k : Contract} {bytes out : List ℕ} (r : Ready k bytes) where
-  pub short : length out < length bytes → Replies (record_of k (length out)) out (Written.Refused Short) out
+  pub short : length out < length bytes → Replies (record_of k (length out)) out (Err Short) out
   unfolding record_of
   short h = refuses Short (rw (r.within, r.costs_rise, r.values_rise, r.bytes_are, lt-leb (length bytes) (length out) h))
 
-  pub written : {out' : List ℕ} {n : ℕ} → length bytes ≤ length out → Puts bytes out 0 n out' → Replies (record_of k (length out)) out (Written.Bytes n) out'
+  pub written : {out' : List ℕ} {n : ℕ} → length bytes ≤ length out → Puts bytes out 0 n out' → Replies (record_of k (length out)) out (Ok n) out'
   unfolding record_of
   written h p =
       rw (r.within, r.costs_rise, r.values_rise, r.bytes_are, le-leb (length bytes) (length out) h)
@@ -175,9 +181,6 @@ table_sized t cells same =
 
 -- the front of a map of 16 bytes is the map of the rows
 module _ {h : Header} {us cs vs map : List ℕ} (t : Tabled h us cs vs) (cells : List ℕ) (same : length cells ≡ length cs) (e : map ≡ row_map us cells (length cells) 16) where
-  pub map_room : map_size (length cs) ≤ length map
-  map_room = rw (e, map_length) (omega (arith, laid t))
-
   pub map_front : take (map_size (length cs)) map ≡ row_map us cells (length cells) (map_size (length cells))
   map_front = rw (e, ← same) (map_take us cells (length cells) (map_size (length cells)) 16 (omega (arith, laid t)))
 

@@ -1,5 +1,5 @@
 -- What finding a ladder promises.
-use Rattle.std.specs.Prelude.{◌≡◌, ◌⊎◌, false, List, [], ℕ, ◌+◌, ◌*◌, ◌≤◌, length}
+use Rattle.std.specs.Prelude.{◌≡◌, ◌⊎◌, false, List, [], ℕ, ◌+◌, ◌*◌, ◌≤◌, length, Result, Ok, Err}
 use Rattle.area.specs.Entries.{column}
 use Rattle.contract.specs.Res.{Res, refused, ok, bind}
 use Rattle.contract.specs.Contract.{Contract, number_of}
@@ -8,6 +8,7 @@ use Rattle.contract.specs.Parse.{parse}
 use Rattle.contract.specs.Segments.{segment_body}
 use Rattle.contract.specs.Valid.{sum}
 use Rattle.contract.specs.declared.Form.{Form}
+use Rattle.contract.specs.declared.Refusal.{Refusal}
 use Rattle.record.specs.declared.Ladder.{Ladder}
 use Rattle.record.specs.declared.Found.{Found}
 
@@ -53,8 +54,8 @@ abbrev pub OtherFound : List ℕ → Type 0
 OtherFound s = HeadFound Form.UnitPrices s ⊎ HeadFound Form.Table s
 
 -- the promise of finding a ladder: the refusal as far as it reads, a ladder, or which other form it is. No two answers keep it (`found_one`)
-abbrev pub Finds : List ℕ → Found → Type 0
-Finds s (Found.Refused e) = sought s ≡ refused (number_of e)
-Finds s (Found.Ladder l) = LadderFound s l
-Finds s Found.UnitPrices = HeadFound Form.UnitPrices s
-Finds s Found.Table = HeadFound Form.Table s
+abbrev pub Finds : List ℕ → Result Found Refusal → Type 0
+Finds s (Err e) = sought s ≡ refused (number_of e)
+Finds s (Ok (Found.Ladder l)) = LadderFound s l
+Finds s (Ok Found.UnitPrices) = HeadFound Form.UnitPrices s
+Finds s (Ok Found.Table) = HeadFound Form.Table s

@@ -1,119 +1,81 @@
-// Single fields of a record, each with its refusals.
+// Single fields of a record, each with its refusals. A field that is read answers its number and the index after it, as the format's own
+// definitions do: a reader that held both would be no plainer, since each clause has to name the index before and after.
 ghost use Rattle.std.specs.Prelude.{◌≡◌, ◌+◌, ◌≤◌, length};
-ghost use Rattle.area.specs.Entries.{num};
 ghost use Rattle.contract.specs.Contract.{limit};
 ghost use Rattle.contract.specs.Field.{money, amount};
-ghost use Rattle.record.specs.View.Field.{FieldRead, InRange, Money, Adds};
+ghost use Rattle.record.specs.View.Field.{FieldRead, FieldAs, InRange, Ranged, Adds, Money};
 
+use area::Entry;
 use contract::Refusal;
 
-pub(crate) const LIMIT: u64 = 1_000_000_000;
+pub(crate) const LIMIT: u32 = 1_000_000_000;
 
-// A number, and the index after it.
-#[derive(Clone, Copy)]
-pub(crate) enum Field {
-    Refused(Refusal),
-    Got(u64, usize),
-}
-
-pub(crate) fn byte(s: &[u8], at: usize) -> Field
+fn byte(s: &[u8], at: usize) -> Result<(u64, usize), Refusal>
     ensures { FieldRead 1 s.now at result }
 {
     if s.len() <= at {
-        return Field::Refused(Refusal::Truncated);
+        return Err(Refusal::Truncated);
     }
-    Field::Got(s[at] as u64, at + 1)
+    Ok((u64::from(s[at]), at + 1))
 }
 
-pub(crate) fn half(s: &[u8], at: usize) -> Field
-    ensures { FieldRead 2 s.now at result }
+// A field of two bytes or of four.
+pub(crate) fn field<T: Entry>(s: &[u8], at: usize) -> Result<(T, usize), Refusal>
+    ensures { FieldAs T.number T.BYTES s.now at result }
 {
-    if s.len() < 2 {
-        return Field::Refused(Refusal::Truncated);
+    if s.len() < T::BYTES || s.len() - T::BYTES < at {
+        return Err(Refusal::Truncated);
     }
-    if s.len() - 2 < at {
-        return Field::Refused(Refusal::Truncated);
-    }
-    Field::Got(area::num_u16(s, at) as u64, at + 2)
+    Ok((T::load(s, at), at + T::BYTES))
 }
 
-// The 32-bit number at index i, which lies within the record.
-pub(crate) fn number(s: &[u8], i: usize) -> u32
-    requires { i + 4 ≤ length s.now }
-    ensures { result ≡ num 4 s.now i }
+// A number held to 1 .. most.
+pub(crate) fn in_range(n: u64, most: u64) -> Result<u64, Refusal>
+    ensures { InRange n most result }
 {
-    let e = i + 4;
-    area::num_u32(&s[i..e], 0)
+    if n == 0 || most < n {
+        return Err(Refusal::Range);
+    }
+    Ok(n)
 }
 
-fn word(s: &[u8], at: usize) -> Field
-    ensures { FieldRead 4 s.now at result }
+// A byte held to 1 .. most.
+pub(crate) fn small(s: &[u8], at: usize, most: u64) -> Result<(u64, usize), Refusal>
+    ensures { Ranged 1 most s.now at result }
 {
-    if s.len() < 4 {
-        return Field::Refused(Refusal::Truncated);
-    }
-    if s.len() - 4 < at {
-        return Field::Refused(Refusal::Truncated);
-    }
-    Field::Got(number(s, at) as u64, at + 4)
-}
-
-// A field that was read, held to 1 .. most.
-pub(crate) fn in_range(f: Field, most: u64) -> Field
-    ensures { InRange most f result }
-{
-    match f {
-        Field::Refused(e) => Field::Refused(e),
-        Field::Got(n, next) => {
-            if n == 0 {
-                return Field::Refused(Refusal::Range);
-            }
-            if most < n {
-                return Field::Refused(Refusal::Range);
-            }
-            Field::Got(n, next)
-        }
-    }
+    let (n, next) = byte(s, at)?;
+    Ok((in_range(n, most)?, next))
 }
 
 // P, cs or cd; 0 where its bit is clear.
-pub(crate) fn money(s: &[u8], at: usize, present: bool) -> Field
+pub(crate) fn money(s: &[u8], at: usize, present: bool) -> Result<(u32, usize), Refusal>
     ensures { Money (money present s.now at) result }
 {
-    if present {
-        match word(s, at) {
-            Field::Refused(e) => Field::Refused(e),
-            Field::Got(v, next) => {
-                if v == 0 {
-                    return Field::Refused(Refusal::Value);
-                }
-                if LIMIT < v {
-                    return Field::Refused(Refusal::Limit);
-                }
-                Field::Got(v, next)
-            }
-        }
-    } else {
-        Field::Got(0, at)
+    if !present {
+        return Ok((0, at));
     }
+    let (v, next) = field::<u32>(s, at)?;
+    if v == 0 {
+        return Err(Refusal::Value);
+    }
+    if LIMIT < v {
+        return Err(Refusal::Limit);
+    }
+    Ok((v, next))
 }
 
 // An amount for each of n units, added to a running total.
-pub(crate) fn amount(s: &[u8], n: u64, total: u64, at: usize) -> Field
+pub(crate) fn amount(s: &[u8], n: u64, total: u64, at: usize) -> Result<(u64, usize), Refusal>
     requires { (n ≤ 1000) × (total ≤ limit) }
     ensures { Adds s.now at (amount s.now n total at) result }
 {
-    match word(s, at) {
-        Field::Refused(e) => Field::Refused(e),
-        Field::Got(v, next) => {
-            if LIMIT < v {
-                return Field::Refused(Refusal::Limit);
-            }
-            let t = total + n * v;
-            if LIMIT < t {
-                return Field::Refused(Refusal::Limit);
-            }
-            Field::Got(t, next)
-        }
+    let (v, next) = field::<u32>(s, at)?;
+    if LIMIT < v {
+        return Err(Refusal::Limit);
     }
+    let sum = total + n * u64::from(v);
+    if u64::from(LIMIT) < sum {
+        return Err(Refusal::Limit);
+    }
+    Ok((sum, next))
 }

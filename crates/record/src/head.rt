@@ -1,78 +1,51 @@
 // The map and the three amounts.
-ghost use Rattle.std.specs.Prelude.{◌≡◌};
 ghost use Rattle.contract.specs.Field.{form_of, amounts, head_at};
-ghost use Rattle.record.specs.View.Head.{view_form, Heads};
+ghost use Rattle.record.specs.View.Head.{Formed, Heads};
 
-use super::field::{Field, half, money};
+use super::field::{field, money};
 use contract::{Form, Refusal};
 
 #[derive(Clone, Copy)]
 pub(crate) struct Head {
     pub form: Form,
-    pub price: u64,
-    pub supplier: u64,
-    pub buyer: u64,
+    pub price: u32,
+    pub supplier: u32,
+    pub buyer: u32,
     pub next: usize,
 }
 
-#[derive(Clone, Copy)]
-pub(crate) enum HeadReply {
-    Refused(Refusal),
-    Got(Head),
-}
-
-#[derive(Clone, Copy)]
-enum FormReply {
-    Refused(Refusal),
-    Is(Form),
-}
-
 // The form that the map's bits from 3 on name.
-fn form_of(bits: u64) -> FormReply
-    ensures { view_form result ≡ form_of bits }
+fn form_of(bits: u16) -> Result<Form, Refusal>
+    ensures { Formed (form_of bits) result }
 {
-    if bits == 1 {
-        return FormReply::Is(Form::Ladder);
+    match bits {
+        1 => Ok(Form::Ladder),
+        2 => Ok(Form::UnitPrices),
+        4 => Ok(Form::Table),
+        _ => Err(Refusal::Map),
     }
-    if bits == 2 {
-        return FormReply::Is(Form::UnitPrices);
-    }
-    if bits == 4 {
-        return FormReply::Is(Form::Table);
-    }
-    FormReply::Refused(Refusal::Map)
 }
 
 // P, cs and cd, as bits 0, 1 and 2 of the map announce them.
-fn amounts(s: &[u8], map: u64, form: Form, at: usize) -> HeadReply
+fn amounts(s: &[u8], map: u16, form: Form, at: usize) -> Result<Head, Refusal>
     ensures { Heads (amounts s.now map form at) result }
 {
-    match money(s, at, map % 2 == 1) {
-        Field::Refused(e) => HeadReply::Refused(e),
-        Field::Got(price, a) => match money(s, a, map / 2 % 2 == 1) {
-            Field::Refused(e) => HeadReply::Refused(e),
-            Field::Got(supplier, b) => match money(s, b, map / 4 % 2 == 1) {
-                Field::Refused(e) => HeadReply::Refused(e),
-                Field::Got(buyer, next) => HeadReply::Got(Head {
-                    form,
-                    price,
-                    supplier,
-                    buyer,
-                    next,
-                }),
-            },
-        },
-    }
+    let (price, at) = money(s, at, map % 2 == 1)?;
+    let (supplier, at) = money(s, at, map / 2 % 2 == 1)?;
+    let (buyer, next) = money(s, at, map / 4 % 2 == 1)?;
+    Ok(Head {
+        form,
+        price,
+        supplier,
+        buyer,
+        next,
+    })
 }
 
-pub(crate) fn head_at(s: &[u8]) -> HeadReply
+pub(crate) fn head_at(s: &[u8]) -> Result<Head, Refusal>
     ensures { Heads (head_at s.now) result }
 {
-    match half(s, 0) {
-        Field::Refused(e) => HeadReply::Refused(e),
-        Field::Got(map, next) => match form_of(map / 8) {
-            FormReply::Refused(e) => HeadReply::Refused(e),
-            FormReply::Is(form) => amounts(s, map, form, next),
-        },
-    }
+    let (map, next) = field::<u16>(s, 0)?;
+    let form = form_of(map / 8)?;
+    amounts(s, map, form, next)
 }

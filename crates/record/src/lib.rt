@@ -5,8 +5,8 @@ ghost use Rattle.std.specs.Prelude.{◌≡◌, length, ◌≤◌};
 ghost use Rattle.contract.specs.Parse.{reading};
 ghost use Rattle.record.specs.Find.{Finds};
 ghost use Rattle.record.specs.Promise.{Reads, Writes};
-ghost use Rattle.record.specs.View.Answer.{refusal, acceptance};
-ghost use Rattle.record.specs.View.Head.{head_of, Small};
+ghost use Rattle.record.specs.View.Answer.{header_with};
+ghost use Rattle.record.specs.View.Head.{head_of};
 
 mod counts;
 mod field;
@@ -19,27 +19,6 @@ mod table;
 mod writer;
 
 use contract::{Form, Header, Refusal};
-
-// Whether a record was read.
-#[derive(Clone, Copy)]
-pub enum Reply {
-    Refused(Refusal),
-    Accepted,
-}
-
-// The reply, and the contract's header; an empty one beside a refusal.
-#[derive(Clone, Copy)]
-pub struct Outcome {
-    pub reply: Reply,
-    pub header: Header,
-}
-
-// The length of the record that was written.
-#[derive(Clone, Copy)]
-pub enum Written {
-    Refused(Refusal),
-    Bytes(usize),
-}
 
 // A ladder in its record: P and the defection costs, where its rises begin, how many units there are, and the total cost and value.
 #[derive(Clone, Copy)]
@@ -56,99 +35,72 @@ pub struct Ladder {
 // What finding a ladder answers.
 #[derive(Clone, Copy)]
 pub enum Found {
-    Refused(Refusal),
     Ladder(Ladder),
     // Not looked at beyond the head.
     UnitPrices,
     Table,
 }
 
-// Reads a record: its costs and values go to the front of two areas.
-pub fn read(bytes: &[u8], costs: &mut [u32], values: &mut [u32]) -> Outcome
+// Reads a record: its costs and values go to the front of two areas, which a refusal leaves as they were. (Two loans and no struct of both:
+// each clause says what either area was and is.)
+pub fn read(bytes: &[u8], costs: &mut [u32], values: &mut [u32]) -> Result<Header, Refusal>
     ensures { Reads (reading bytes.now (length costs.old) (length values.old)) costs.old values.old result costs.new values.new }
 {
-    match head::head_at(bytes) {
-        head::HeadReply::Refused(e) => refuse(e),
-        head::HeadReply::Got(h) => {
-            let form = h.form;
-            match form {
-                Form::Ladder => segments::read_segments(bytes, h, false, costs, values),
-                Form::UnitPrices => segments::read_segments(bytes, h, true, costs, values),
-                Form::Table => table::read_table(bytes, h, costs, values),
-            }
-        }
+    let h = head::head_at(bytes)?;
+    match h.form {
+        Form::Ladder => segments::read_segments::<false>(bytes, h, costs, values),
+        Form::UnitPrices => segments::read_segments::<true>(bytes, h, costs, values),
+        Form::Table => table::read_table(bytes, h, costs, values),
     }
 }
 
 // Finds a ladder in its record. Nothing is copied: the rises stay where they are.
-pub fn find(bytes: &[u8]) -> Found
+pub fn find(bytes: &[u8]) -> Result<Found, Refusal>
     ensures { Finds bytes.now result }
 {
-    match head::head_at(bytes) {
-        head::HeadReply::Refused(e) => Found::Refused(e),
-        head::HeadReply::Got(h) => {
-            let form = h.form;
-            match form {
-                Form::Ladder => rises::find_ladder(bytes, h),
-                Form::UnitPrices => Found::UnitPrices,
-                Form::Table => Found::Table,
-            }
-        }
+    let found = head::head_at(bytes)?;
+    match found.form {
+        Form::Ladder => rises::find_ladder(bytes, found),
+        Form::UnitPrices => Ok(Found::UnitPrices),
+        Form::Table => Ok(Found::Table),
     }
 }
 
 // Writes the record of a contract: the costs and values at the front of two areas, the record to the front of `out`.
-pub fn write(header: Header, costs: &[u32], values: &[u32], out: &mut [u8]) -> Written
+// The answer is the record's length; a refusal leaves `out` as it was.
+pub fn write(
+    header: Header,
+    costs: &[u32],
+    values: &[u32],
+    out: &mut [u8],
+) -> Result<usize, Refusal>
     ensures { Writes header costs.now values.now out.old result out.new }
 {
-    let form = header.form;
-    let units = header.units;
-    let n = counts::entry_count(form, header.count, units);
-    if n == 0 {
-        return Written::Refused(Refusal::Range);
+    let n = counts::entry_count(header).ok_or(Refusal::Range)?;
+    if costs.len() < n || values.len() < n {
+        return Err(Refusal::Short);
     }
-    if costs.len() < n {
-        return Written::Refused(Refusal::Short);
-    }
-    if values.len() < n {
-        return Written::Refused(Refusal::Short);
-    }
-    let k = counts::item_count(form, header.count);
-    writer::write_counted(header, &units[..k], &costs[..n], &values[..n], out)
+    let k = counts::item_count(header);
+    let contract = writer::Contract {
+        header,
+        units: &header.units[..k],
+        costs: &costs[..n],
+        values: &values[..n],
+    };
+    contract.write(out)
 }
 
-// A refusal, with the empty header beside it.
-fn refuse(e: Refusal) -> Outcome
-    ensures { result ≡ refusal e }
+// The header of a record that was read.
+fn header_of(h: head::Head, count: usize, units: [u16; 8]) -> Header
+    requires { count ≤ 1000 }
+    ensures { result ≡ header_with (head_of h) count units }
 {
-    Outcome {
-        reply: Reply::Refused(e),
-        header: Header {
-            price: 0,
-            supplier: 0,
-            buyer: 0,
-            form: Form::Ladder,
-            count: 0,
-            units: [0u16; 8],
-        },
-    }
-}
-
-// A record that was read: its header.
-fn accept(h: head::Head, count: usize, units: [u16; 8]) -> Outcome
-    requires { Small (head_of h) × (count ≤ 1000) }
-    ensures { result ≡ acceptance (head_of h) count units }
-{
-    let form = h.form;
-    Outcome {
-        reply: Reply::Accepted,
-        header: Header {
-            price: h.price as u32,
-            supplier: h.supplier as u32,
-            buyer: h.buyer as u32,
-            form,
-            count: count as u16,
-            units,
-        },
+    Header {
+        price: h.price,
+        supplier: h.supplier,
+        buyer: h.buyer,
+        form: h.form,
+        count: count as u16,
+        units,
     }
 }

@@ -1,4 +1,5 @@
-// The parts of a record, each stored from an index on. A store answers the index after it.
+// The parts of a record, each stored from an index on. A store answers the index after it: a writer that held the loan of `out` and the
+// index would be no plainer, since each clause says which bytes stand from where to where in `out`.
 ghost use Rattle.std.specs.Prelude.{◌≡◌, cond, ◌+◌, ◌*◌, ◌≤◌, eqb, length};
 ghost use mathlib.Core.List.{[], ◌++◌, flat_map};
 ghost use Rattle.area.specs.Entries.{digits};
@@ -8,8 +9,10 @@ ghost use Rattle.area.specs.Puts.{Puts};
 ghost use Rattle.record.specs.View.Write.{contract_with, count_size, head_bytes, units_byte, Run, run_bytes, grid_with};
 
 use super::rows::ones;
+use area::Entry;
 use contract::{Form, Header};
 
+// A byte, which is no entry of an area: the lowest of v.
 fn put_u8(out: &mut [u8], at: usize, v: u16) -> usize
     requires { at + 1 ≤ length out.old }
     ensures { Puts (digits 1 v) out.old at result out.new }
@@ -18,20 +21,13 @@ fn put_u8(out: &mut [u8], at: usize, v: u16) -> usize
     at + 1
 }
 
-fn put_u16(out: &mut [u8], at: usize, v: u16) -> usize
-    requires { at + 2 ≤ length out.old }
-    ensures { Puts (digits 2 v) out.old at result out.new }
+// A number of two bytes or of four.
+fn put<T: Entry>(out: &mut [u8], at: usize, v: T) -> usize
+    requires { at + T.BYTES ≤ length out.old }
+    ensures { Puts (digits T.BYTES (T.number v)) out.old at result out.new }
 {
-    area::put_u16(out, at, v);
-    at + 2
-}
-
-fn put_u32(out: &mut [u8], at: usize, v: u32) -> usize
-    requires { at + 4 ≤ length out.old }
-    ensures { Puts (digits 4 v) out.old at result out.new }
-{
-    area::put_u32(out, at, v);
-    at + 4
+    v.save(out, at);
+    at + T::BYTES
 }
 
 // The bit of the map that announces an amount.
@@ -54,8 +50,7 @@ fn form_bit(form: Form) -> u16
 fn map_of(header: Header) -> u16
     ensures { result ≡ map_of (contract_with header [] [] []) }
 {
-    let form = header.form;
-    bit(header.price, 1) + bit(header.supplier, 2) + bit(header.buyer, 4) + form_bit(form)
+    bit(header.price, 1) + bit(header.supplier, 2) + bit(header.buyer, 4) + form_bit(header.form)
 }
 
 // P, cs or cd; nothing for 0.
@@ -63,7 +58,7 @@ fn put_money(out: &mut [u8], at: usize, v: u32) -> usize
     requires { at + length (money_bytes v) ≤ length out.old }
     ensures { Puts (money_bytes v) out.old at result out.new }
 {
-    if v == 0 { at } else { put_u32(out, at, v) }
+    if v == 0 { at } else { put(out, at, v) }
 }
 
 fn money_len(v: u32) -> usize
@@ -77,9 +72,8 @@ fn put_count(out: &mut [u8], at: usize, form: Form, count: u16) -> usize
     ensures { Puts (digits (count_size form) count) out.old at result out.new }
 {
     match form {
-        Form::Ladder => put_u16(out, at, count),
-        Form::UnitPrices => put_u8(out, at, count),
-        Form::Table => put_u8(out, at, count),
+        Form::Ladder => put(out, at, count),
+        Form::UnitPrices | Form::Table => put_u8(out, at, count),
     }
 }
 
@@ -88,8 +82,7 @@ fn count_len(form: Form) -> usize
 {
     match form {
         Form::Ladder => 2,
-        Form::UnitPrices => 1,
-        Form::Table => 1,
+        Form::UnitPrices | Form::Table => 1,
     }
 }
 
@@ -98,22 +91,20 @@ pub(crate) fn put_head(out: &mut [u8], header: Header) -> usize
     requires { length (head_bytes header) ≤ length out.old }
     ensures { Puts (head_bytes header) out.old 0 result out.new }
 {
-    let form = header.form;
-    let i = put_u16(out, 0, map_of(header));
+    let i = put(out, 0, map_of(header));
     let j = put_money(out, i, header.price);
     let k = put_money(out, j, header.supplier);
     let l = put_money(out, k, header.buyer);
-    put_count(out, l, form, header.count)
+    put_count(out, l, header.form, header.count)
 }
 
 pub(crate) fn head_len(header: Header) -> usize
     ensures { (result ≡ length (head_bytes header)) × (result ≤ 16) }
 {
-    let form = header.form;
     2 + money_len(header.price)
         + money_len(header.supplier)
         + money_len(header.buyer)
-        + count_len(form)
+        + count_len(header.form)
 }
 
 // The units of segment i, where they are stated.
@@ -133,8 +124,8 @@ fn put_segment(out: &mut [u8], at: usize, units: &[u16], i: usize, cost: u32, va
     ensures { Puts (units_byte units.now i ++ digits 4 cost ++ digits 4 value) out.old at result out.new }
 {
     let j = put_segment_units(out, at, units, i);
-    let k = put_u32(out, j, cost);
-    put_u32(out, k, value)
+    let k = put(out, j, cost);
+    put(out, k, value)
 }
 
 // The segments of a ladder, which state no units, or of unit prices.
@@ -149,10 +140,8 @@ pub(crate) fn put_segments(
     ensures { Puts (run_bytes units.now costs.now values.now) out.old at result out.new }
 {
     let mut j = at;
-    let mut i = 0;
-    while i < costs.len() {
+    for i in 0..costs.len() {
         j = put_segment(out, j, units, i, costs[i], values[i]);
-        i += 1;
     }
     j
 }
@@ -163,10 +152,8 @@ pub(crate) fn put_units(out: &mut [u8], at: usize, units: &[u16]) -> usize
     ensures { Puts (flat_map (digits 1) units.now) out.old at result out.new }
 {
     let mut j = at;
-    let mut i = 0;
-    while i < units.len() {
-        j = put_u8(out, j, units[i]);
-        i += 1;
+    for n in units {
+        j = put_u8(out, j, *n);
     }
     j
 }
@@ -175,14 +162,9 @@ fn put_map(out: &mut [u8], at: usize, map: &[u8]) -> usize
     requires { at + length map.now ≤ length out.old }
     ensures { Puts map.now out.old at result out.new }
 {
-    let mut j = at;
-    let mut i = 0;
-    while i < map.len() {
-        out[j] = map[i];
-        j += 1;
-        i += 1;
-    }
-    j
+    let end = at + map.len();
+    out[at..end].copy_from_slice(map);
+    end
 }
 
 // The cell of row r, if it stands.
@@ -191,7 +173,7 @@ fn put_cell(out: &mut [u8], at: usize, map: &[u8], r: usize, cell: u32) -> usize
     ensures { Puts (cond (stands map.now r) (digits 4 cell) []) out.old at result out.new }
 {
     if grid::stands(map, r) {
-        put_u32(out, at, cell)
+        put(out, at, cell)
     } else {
         at
     }
@@ -203,10 +185,8 @@ fn put_cells(out: &mut [u8], at: usize, map: &[u8], cells: &[u32]) -> usize
     ensures { Puts (flat_map (digits 4) (standing_cells map.now cells.now (length cells.now))) out.old at result out.new }
 {
     let mut j = at;
-    let mut r = 0;
-    while r < cells.len() {
+    for r in 0..cells.len() {
         j = put_cell(out, j, map, r, cells[r]);
-        r += 1;
     }
     j
 }

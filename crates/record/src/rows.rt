@@ -1,13 +1,12 @@
 // Units of items, row maps and cells.
-ghost use Rattle.std.specs.Prelude.{◌≡◌, ◌&&◌, ◌++◌, ◌-◌, ◌≤◌, leb, length, drop, replicate};
+ghost use Rattle.std.specs.Prelude.{◌≡◌, ◌++◌, ◌-◌, ◌≤◌, length, drop, replicate};
 ghost use Rattle.area.specs.Entries.{column, entries};
 ghost use Rattle.grid.specs.Map.{bit_count};
 ghost use Rattle.grid.specs.Rows.{LastLargest};
-ghost use Rattle.contract.specs.Contract.{limit};
 ghost use Rattle.contract.specs.Table.{all_within};
 ghost use Rattle.record.specs.View.Spaced.{Spaced};
 
-use super::field::{LIMIT, number};
+use super::field::LIMIT;
 
 // The units of n items, each `step` bytes after the one before, then zeros.
 pub(crate) fn units_of(s: &[u8], at: usize, step: usize, n: usize) -> [u16; 8]
@@ -15,12 +14,8 @@ pub(crate) fn units_of(s: &[u8], at: usize, step: usize, n: usize) -> [u16; 8]
     ensures { result ≡ column 1 s.now at step n ++ replicate (8 - n) 0 }
 {
     let mut units = [0u16; 8];
-    let mut k: usize = 0;
-    let mut i = at;
-    while k < n {
-        units[k] = s[i] as u16;
-        i += step;
-        k += 1;
+    for k in 0..n {
+        units[k] = u16::from(s[at + k * step]);
     }
     units
 }
@@ -32,32 +27,21 @@ pub(crate) fn ones(map: &[u8]) -> usize
     ensures { (result ≡ bit_count map.now) × (result ≤ 128) }
 {
     let mut n: u8 = 0;
-    let mut i = 0;
-    while i < map.len() {
-        n += u8::count_ones(map[i]) as u8;
-        i += 1;
+    for byte in map {
+        n += byte.count_ones() as u8;
     }
-    n as usize
+    usize::from(n)
 }
 
 // Whether every cell is within the limit. All are looked at: a loop with one way out is the faster.
 pub(crate) fn all_within(cells: &[u8]) -> bool
     ensures { result ≡ all_within (entries 4 cells.now) }
 {
-    let n = area::count_u32(cells);
     let mut within = true;
-    let mut k: usize = 0;
-    while k < n {
-        within = still_within(within, number(cells, k * 4));
-        k += 1;
+    for k in 0..area::count::<u32>(cells) {
+        within &= area::known::<u32>(cells, k) <= LIMIT;
     }
     within
-}
-
-fn still_within(within: bool, v: u32) -> bool
-    ensures { result ≡ (within && leb v limit) }
-{
-    if v as u64 <= LIMIT { within } else { false }
 }
 
 // Whether every cell is within the limit, where none is above the last one.
@@ -65,20 +49,8 @@ pub(crate) fn last_within(cells: &[u8]) -> bool
     requires { LastLargest (entries 4 cells.now) }
     ensures { result ≡ all_within (entries 4 cells.now) }
 {
-    let n = area::count_u32(cells);
-    area::known_u32(cells, n - 1) as u64 <= LIMIT
-}
-
-// Copies cells to the front of an area.
-pub(crate) fn copy(cells: &[u32], out: &mut [u32])
-    requires { length cells.now ≤ length out.old }
-    ensures { out.new ≡ cells.now ++ drop (length cells.now) out.old }
-{
-    let mut k = 0;
-    while k < cells.len() {
-        out[k] = cells[k];
-        k += 1;
-    }
+    let n = area::count::<u32>(cells);
+    area::known::<u32>(cells, n - 1) <= LIMIT
 }
 
 // Copies cells out of the record to the front of an area.
@@ -86,10 +58,7 @@ pub(crate) fn copy_given(given: &[u8], out: &mut [u32])
     requires { length (entries 4 given.now) ≤ length out.old }
     ensures { out.new ≡ entries 4 given.now ++ drop (length (entries 4 given.now)) out.old }
 {
-    let n = area::count_u32(given);
-    let mut k: usize = 0;
-    while k < n {
-        out[k] = area::known_u32(given, k);
-        k += 1;
+    for k in 0..area::count::<u32>(given) {
+        out[k] = area::known::<u32>(given, k);
     }
 }

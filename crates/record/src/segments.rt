@@ -4,16 +4,17 @@ ghost use Rattle.area.specs.Entries.{column};
 ghost use Rattle.contract.specs.Segments.{cost_value, segment, segments, segment_body, size, skip};
 ghost use Rattle.contract.specs.Parse.{sized};
 ghost use Rattle.record.specs.View.Spaced.{Spaced};
-ghost use Rattle.record.specs.View.Head.{head_of, ReadHead};
+ghost use Rattle.record.specs.View.Head.{head_of};
 ghost use Rattle.record.specs.View.Segments.{sums, Kept, Steps, Whole, lifted, wide, most, Runs, padded_units, segment_form};
 ghost use Rattle.record.specs.View.Field.{Ranged};
 ghost use Rattle.record.specs.Promise.{Reads};
 
-use super::field::{Field, LIMIT, amount, byte, half, in_range, number};
+use super::field::{LIMIT, amount, field, in_range, small};
 use super::head::Head;
+use super::header_of;
 use super::rows::units_of;
-use super::{Outcome, accept, refuse};
-use contract::Refusal;
+use area::Entry;
+use contract::{Header, Refusal};
 
 // Running totals and the index reached.
 #[derive(Clone, Copy)]
@@ -24,63 +25,40 @@ pub(crate) struct Cursor {
     pub value: u64,
 }
 
-#[derive(Clone, Copy)]
-pub(crate) enum Step {
-    Refused(Refusal),
-    Next(Cursor),
-}
-
 // The cost and the value of each of n units.
-fn cost_value(s: &[u8], c: Cursor, n: u64) -> Step
+fn cost_value(s: &[u8], c: Cursor, n: u64) -> Result<Cursor, Refusal>
     requires { (n ≤ 1000) × Kept (sums c) }
     ensures { Steps s.now (c.at + 8) (cost_value s.now (sums c) n) result }
 {
-    match amount(s, n, c.cost, c.at) {
-        Field::Refused(e) => Step::Refused(e),
-        Field::Got(cost, mid) => match amount(s, n, c.value, mid) {
-            Field::Refused(e) => Step::Refused(e),
-            Field::Got(value, end) => Step::Next(Cursor {
-                at: end,
-                units: c.units,
-                cost,
-                value,
-            }),
-        },
-    }
+    let (cost, mid) = amount(s, n, c.cost, c.at)?;
+    let (value, end) = amount(s, n, c.value, mid)?;
+    Ok(Cursor {
+        at: end,
+        units: c.units,
+        cost,
+        value,
+    })
 }
 
 // An item with unit prices.
-fn item(s: &[u8], c: Cursor) -> Step
+fn item(s: &[u8], c: Cursor) -> Result<Cursor, Refusal>
     requires { Kept (sums c) }
     ensures { Steps s.now (c.at + 9) (segment true s.now (sums c)) result }
 {
-    match in_range(byte(s, c.at), 255) {
-        Field::Refused(e) => Step::Refused(e),
-        Field::Got(n, next) => {
-            let units = c.units + n;
-            if 1000 < units {
-                return Step::Refused(Refusal::Range);
-            }
-            cost_value(
-                s,
-                Cursor {
-                    at: next,
-                    units,
-                    cost: c.cost,
-                    value: c.value,
-                },
-                n,
-            )
-        }
+    let (n, at) = small(s, c.at, 255)?;
+    let units = c.units + n;
+    if 1000 < units {
+        return Err(Refusal::Range);
     }
+    cost_value(s, Cursor { at, units, ..c }, n)
 }
 
 // A unit of a ladder, or an item with unit prices.
-fn segment(s: &[u8], c: Cursor, priced: bool) -> Step
+fn segment<const PRICED: bool>(s: &[u8], c: Cursor) -> Result<Cursor, Refusal>
     requires { Kept (sums c) }
-    ensures { Steps s.now (c.at + size priced) (segment priced s.now (sums c)) result }
+    ensures { Steps s.now (c.at + size PRICED) (segment PRICED s.now (sums c)) result }
 {
-    if priced {
+    if PRICED {
         item(s, c)
     } else {
         cost_value(s, c, 1)
@@ -88,43 +66,31 @@ fn segment(s: &[u8], c: Cursor, priced: bool) -> Step
 }
 
 // n segments, one after the other.
-fn segments(s: &[u8], c: Cursor, n: u64, priced: bool) -> Step
+fn segments<const PRICED: bool>(s: &[u8], c: Cursor, n: usize) -> Result<Cursor, Refusal>
     requires { (c.at ≤ length s.now) × Kept (sums c) }
-    ensures { Steps s.now (c.at + n * size priced) (segments priced s.now n (sums c)) result }
+    ensures { Steps s.now (c.at + n * size PRICED) (segments PRICED s.now n (sums c)) result }
 {
     let mut d = c;
-    let mut left = n;
-    while 0 < left {
-        match segment(s, d, priced) {
-            Step::Refused(e) => {
-                return Step::Refused(e);
-            }
-            Step::Next(next) => {
-                d = next;
-            }
-        }
-        left -= 1;
+    for _k in 0..n {
+        d = segment::<PRICED>(s, d)?;
     }
-    Step::Next(d)
+    Ok(d)
 }
 
 // The totals after n units of a ladder that lie within the record: two sums, with no test between.
-fn totals(s: &[u8], c: Cursor, n: u64) -> Cursor
+fn totals(s: &[u8], c: Cursor, n: usize) -> Cursor
     requires { Whole s.now n (sums c) }
     ensures { sums result ≡ lifted s.now n (sums c) }
 {
-    let mut i = c.at;
     let mut cost = c.cost;
     let mut value = c.value;
-    let mut left = n;
-    while 0 < left {
-        cost += number(s, i) as u64;
-        value += number(s, i + 4) as u64;
-        i += 8;
-        left -= 1;
+    for k in 0..n {
+        let i = c.at + 8 * k;
+        cost += u64::from(u32::load(s, i));
+        value += u64::from(u32::load(s, i + 4));
     }
     Cursor {
-        at: i,
+        at: c.at + 8 * n,
         units: c.units,
         cost,
         value,
@@ -132,43 +98,38 @@ fn totals(s: &[u8], c: Cursor, n: u64) -> Cursor
 }
 
 // n units of a ladder that lie within the record: no total falls, so the last ones decide.
-fn ladder(s: &[u8], c: Cursor, n: u64) -> Step
+fn ladder(s: &[u8], c: Cursor, n: usize) -> Result<Cursor, Refusal>
     requires { Whole s.now n (sums c) }
     ensures { Steps s.now (c.at + n * 8) (segments false s.now n (sums c)) result }
 {
     let d = totals(s, c, n);
-    if LIMIT < d.cost {
-        return Step::Refused(Refusal::Limit);
+    let limit = u64::from(LIMIT);
+    if limit < d.cost || limit < d.value {
+        return Err(Refusal::Limit);
     }
-    if LIMIT < d.value {
-        return Step::Refused(Refusal::Limit);
-    }
-    Step::Next(d)
+    Ok(d)
 }
 
 // Validates n segments, by the totals alone where that is enough.
-fn validate(s: &[u8], c: Cursor, n: u64, priced: bool) -> Step
+fn validate<const PRICED: bool>(s: &[u8], c: Cursor, n: usize) -> Result<Cursor, Refusal>
     requires { (n ≤ 1000) × ((c.at ≤ length s.now) × Kept (sums c)) }
-    ensures { Steps s.now (c.at + n * size priced) (segments priced s.now n (sums c)) result }
+    ensures { Steps s.now (c.at + n * size PRICED) (segments PRICED s.now n (sums c)) result }
 {
-    if priced {
-        return segments(s, c, n, true);
-    }
-    if ((s.len() - c.at) as u64) < n * 8 {
-        return segments(s, c, n, false);
+    if PRICED || s.len() - c.at < n * 8 {
+        return segments::<PRICED>(s, c, n);
     }
     ladder(s, c, n)
 }
 
 // How many segments there are.
-fn segment_count(s: &[u8], at: usize, priced: bool) -> Field
-    ensures { Ranged (wide priced) (most priced) s.now at result }
+fn segment_count<const PRICED: bool>(s: &[u8], at: usize) -> Result<(u64, usize), Refusal>
+    ensures { Ranged (wide PRICED) (most PRICED) s.now at result }
 {
-    if priced {
-        in_range(byte(s, at), 8)
-    } else {
-        in_range(half(s, at), 1000)
+    if PRICED {
+        return small(s, at, 8);
     }
+    let (n, next) = field::<u16>(s, at)?;
+    Ok((in_range(u64::from(n), 1000)?, next))
 }
 
 // The segments of a record: how many, where the first begins, and the totals.
@@ -180,41 +141,28 @@ pub(crate) struct Run {
     pub value: u64,
 }
 
-#[derive(Clone, Copy)]
-pub(crate) enum RunReply {
-    Refused(Refusal),
-    Found(Run),
-}
-
 // Validates the segments from index at to the record's end.
-pub(crate) fn find_segments(s: &[u8], at: usize, priced: bool) -> RunReply
-    ensures { Runs priced s.now at result }
+pub(crate) fn find_segments<const PRICED: bool>(s: &[u8], at: usize) -> Result<Run, Refusal>
+    ensures { Runs PRICED s.now at result }
 {
-    match segment_count(s, at, priced) {
-        Field::Refused(e) => RunReply::Refused(e),
-        Field::Got(n, first) => {
-            let c = Cursor {
-                at: first,
-                units: 0,
-                cost: 0,
-                value: 0,
-            };
-            match validate(s, c, n, priced) {
-                Step::Refused(e) => RunReply::Refused(e),
-                Step::Next(d) => {
-                    if d.at != s.len() {
-                        return RunReply::Refused(Refusal::Trailing);
-                    }
-                    RunReply::Found(Run {
-                        count: n as usize,
-                        first,
-                        cost: d.cost,
-                        value: d.value,
-                    })
-                }
-            }
-        }
+    let (n, first) = segment_count::<PRICED>(s, at)?;
+    let c = Cursor {
+        at: first,
+        units: 0,
+        cost: 0,
+        value: 0,
+    };
+    let count = n as usize;
+    let d = validate::<PRICED>(s, c, count)?;
+    if d.at != s.len() {
+        return Err(Refusal::Trailing);
     }
+    Ok(Run {
+        count,
+        first,
+        cost: d.cost,
+        value: d.value,
+    })
 }
 
 // Stores n costs, each `step` bytes after the one before, and the values 4 bytes after each.
@@ -222,29 +170,25 @@ fn fill(s: &[u8], at: usize, step: usize, n: usize, costs: &mut [u32], values: &
     requires { Spaced 8 s.now at step n × ((n ≤ length costs.old) × (n ≤ length values.old)) }
     ensures { (costs.new ≡ column 4 s.now at step n ++ drop n costs.old) × (values.new ≡ column 4 s.now (at + 4) step n ++ drop n values.old) }
 {
-    let mut k = 0;
-    let mut i = at;
-    while k < n {
-        costs[k] = number(s, i);
-        values[k] = number(s, i + 4);
-        i += step;
-        k += 1;
+    for k in 0..n {
+        let i = at + k * step;
+        costs[k] = u32::load(s, i);
+        values[k] = u32::load(s, i + 4);
     }
 }
 
 // Stores the costs and values of n segments, which reach to the record's end.
-fn fill_segments(
+fn fill_segments<const PRICED: bool>(
     s: &[u8],
     first: usize,
     n: usize,
-    priced: bool,
     costs: &mut [u32],
     values: &mut [u32],
 )
-    requires { (first + n * size priced ≡ length s.now) × ((n ≤ length costs.old) × (n ≤ length values.old)) }
-    ensures { (costs.new ≡ column 4 s.now (first + skip priced) (size priced) n ++ drop n costs.old) × (values.new ≡ column 4 s.now (first + skip priced + 4) (size priced) n ++ drop n values.old) }
+    requires { (first + n * size PRICED ≡ length s.now) × ((n ≤ length costs.old) × (n ≤ length values.old)) }
+    ensures { (costs.new ≡ column 4 s.now (first + skip PRICED) (size PRICED) n ++ drop n costs.old) × (values.new ≡ column 4 s.now (first + skip PRICED + 4) (size PRICED) n ++ drop n values.old) }
 {
-    if priced {
+    if PRICED {
         fill(s, first + 1, 9, n, costs, values);
     } else {
         fill(s, first, 8, n, costs, values);
@@ -252,11 +196,11 @@ fn fill_segments(
 }
 
 // The units of each item; a ladder has none.
-fn segment_units(s: &[u8], first: usize, n: usize, priced: bool) -> [u16; 8]
-    requires { Spaced 1 s.now first (size priced) n × (n ≤ most priced) }
-    ensures { result ≡ padded_units priced s.now first n }
+fn segment_units<const PRICED: bool>(s: &[u8], first: usize, n: usize) -> [u16; 8]
+    requires { Spaced 1 s.now first (size PRICED) n × (n ≤ most PRICED) }
+    ensures { result ≡ padded_units PRICED s.now first n }
 {
-    if priced {
+    if PRICED {
         units_of(s, first, 9, n)
     } else {
         [0u16; 8]
@@ -264,29 +208,21 @@ fn segment_units(s: &[u8], first: usize, n: usize, priced: bool) -> [u16; 8]
 }
 
 // Reads what follows the head of a ladder or of unit prices.
-pub(crate) fn read_segments(
+pub(crate) fn read_segments<const PRICED: bool>(
     s: &[u8],
     h: Head,
-    priced: bool,
     costs: &mut [u32],
     values: &mut [u32],
-) -> Outcome
-    requires { ReadHead (segment_form priced) (head_of h) }
-    ensures { Reads (sized (segment_body priced s.now (head_of h)) (length costs.old) (length values.old)) costs.old values.old result costs.new values.new }
+) -> Result<Header, Refusal>
+    requires { h.form ≡ segment_form PRICED }
+    ensures { Reads (sized (segment_body PRICED s.now (head_of h)) (length costs.old) (length values.old)) costs.old values.old result costs.new values.new }
 {
-    match find_segments(s, h.next, priced) {
-        RunReply::Refused(e) => refuse(e),
-        RunReply::Found(p) => {
-            let n = p.count;
-            if costs.len() < n {
-                return refuse(Refusal::Short);
-            }
-            if values.len() < n {
-                return refuse(Refusal::Short);
-            }
-            let first = p.first;
-            fill_segments(s, first, n, priced, costs, values);
-            accept(h, n, segment_units(s, first, n, priced))
-        }
+    let run = find_segments::<PRICED>(s, h.next)?;
+    let n = run.count;
+    if costs.len() < n || values.len() < n {
+        return Err(Refusal::Short);
     }
+    let first = run.first;
+    fill_segments::<PRICED>(s, first, n, costs, values);
+    Ok(header_of(h, n, segment_units::<PRICED>(s, first, n)))
 }

@@ -11,10 +11,9 @@
 //     the reply (u16), the length of the record that was written (u32) and the output area.
 #![tactic(auto)]
 
-ghost use Rattle.std.specs.Prelude.{◌≤◌, ◌<◌};
+ghost use Rattle.std.specs.Prelude.{◌≤◌};
 
 use contract::{Form, Header, Refusal};
-use record::{Reply, Written};
 
 const STDIN: i32 = 0;
 
@@ -27,52 +26,54 @@ const VALUE_MARK: u32 = 0x5A5A_5A5A;
 
 const BYTE_MARK: u8 = 0xA5;
 
-// Numbers
+// The header that is put beside a refusal to read.
+const NO_HEADER: Header = Header {
+    price: 0,
+    supplier: 0,
+    buyer: 0,
+    form: Form::Ladder,
+    count: 0,
+    units: [0; 8],
+};
 
-fn wide(x: u8) -> u64
-    ensures { result < 256 }
-{
-    x as u64
+// Numbers. Standard input and output stay with `io`: std's `read_exact` does not say what it leaves where the input ends early.
+
+fn take<const N: usize>() -> [u8; N] {
+    let mut bytes = [0u8; N];
+    io::read_full(STDIN, &mut bytes);
+    bytes
 }
 
 fn take_u16() -> u16 {
-    let mut b = [0u8; 2];
-    io::read_full(STDIN, &mut b);
-    ((wide(b[0]) + wide(b[1]) * 256) % 65536) as u16
+    u16::from_le_bytes(take())
 }
 
 fn take_u32() -> u32 {
-    let mut b = [0u8; 4];
-    io::read_full(STDIN, &mut b);
-    ((wide(b[0]) + wide(b[1]) * 256 + wide(b[2]) * 65536 + wide(b[3]) * 16777216)
-        % 4294967296) as u32
+    u32::from_le_bytes(take())
 }
 
 // A length, cut to that of the area whose part it names.
 fn take_length(most: usize) -> usize
     ensures { result ≤ most }
 {
-    let length = take_u16() as usize;
-    if length <= most { length } else { most }
+    usize::from(take_u16()).min(most)
+}
+
+fn put(bytes: &[u8]) {
+    io::write_all(STDOUT, bytes);
 }
 
 fn put_u16(x: u16) {
-    let b = [(x % 256) as u8, (x / 256 % 256) as u8];
-    io::write_all(STDOUT, &b);
+    put(&x.to_le_bytes());
 }
 
 fn put_u32(x: u32) {
-    let b = [
-        (x % 256) as u8,
-        (x / 256 % 256) as u8,
-        (x / 65536 % 256) as u8,
-        (x / 16777216 % 256) as u8,
-    ];
-    io::write_all(STDOUT, &b);
+    put(&x.to_le_bytes());
 }
 
 // Headers: price, supplier and buyer (u32), form, count and eight units (u16)
 
+// No `From`: neither type is of this crate.
 fn form_of(x: u16) -> Form {
     match x {
         0 => Form::Ladder,
@@ -81,36 +82,12 @@ fn form_of(x: u16) -> Form {
     }
 }
 
-fn form_number(form: Form) -> u16 {
-    match form {
-        Form::Ladder => 0,
-        Form::UnitPrices => 1,
-        Form::Table => 2,
-    }
-}
-
 fn take_units() -> [u16; 8] {
-    [
-        take_u16(),
-        take_u16(),
-        take_u16(),
-        take_u16(),
-        take_u16(),
-        take_u16(),
-        take_u16(),
-        take_u16(),
-    ]
-}
-
-fn put_units(units: [u16; 8]) {
-    put_u16(units[0]);
-    put_u16(units[1]);
-    put_u16(units[2]);
-    put_u16(units[3]);
-    put_u16(units[4]);
-    put_u16(units[5]);
-    put_u16(units[6]);
-    put_u16(units[7]);
+    let mut units = [0; 8];
+    for n in &mut units {
+        *n = take_u16();
+    }
+    units
 }
 
 fn take_header() -> Header {
@@ -128,88 +105,55 @@ fn put_header(header: Header) {
     put_u32(header.price);
     put_u32(header.supplier);
     put_u32(header.buyer);
-    let form = header.form;
-    put_u16(form_number(form));
+    put_u16(header.form as u16);
     put_u16(header.count);
-    let units = header.units;
-    put_units(units);
-}
-
-// Replies
-
-fn refusal_number(refusal: Refusal) -> u16 {
-    match refusal {
-        Refusal::Truncated => 1,
-        Refusal::Map => 2,
-        Refusal::Value => 3,
-        Refusal::Limit => 4,
-        Refusal::Range => 5,
-        Refusal::Falling => 6,
-        Refusal::Trailing => 7,
-        Refusal::Short => 8,
+    for n in header.units {
+        put_u16(n);
     }
 }
 
-fn put_reply(reply: Reply) {
-    match reply {
-        Reply::Refused(refusal) => put_u16(refusal_number(refusal)),
-        Reply::Accepted => put_u16(0),
-    }
-}
+// Replies: 0, or the number of the refusal
 
-fn put_written(written: Written) {
-    match written {
-        Written::Refused(refusal) => {
-            put_u16(refusal_number(refusal));
-            put_u32(0);
-        }
-        Written::Bytes(length) => {
-            put_u16(0);
-            put_u32((length % 4294967296) as u32);
-        }
-    }
+fn put_reply<T: Copy>(reply: Result<T, Refusal>) {
+    put_u16(match reply {
+        Ok(_) => 0,
+        Err(e) => u32::from(e) as u16,
+    });
 }
 
 // Areas
 
 fn take_entries(entries: &mut [u32]) {
-    let mut i = 0;
-    while i < entries.len() {
-        entries[i] = take_u32();
-        i += 1;
+    for x in entries {
+        *x = take_u32();
     }
 }
 
 fn put_entries(entries: &[u32]) {
-    let mut i = 0;
-    while i < entries.len() {
-        put_u32(entries[i]);
-        i += 1;
+    for x in entries {
+        put_u32(*x);
     }
 }
 
-// Cases. A part is lent as `[0..n]`: written without its start, it asks for a proof of its length.
+// Cases
 
 fn write_into(header: Header, costs: &[u32], values: &[u32], out: &mut [u8]) {
-    put_written(record::write(header, costs, values, out));
-    io::write_all(STDOUT, out);
-}
-
-fn write_into_part(header: Header, costs: &[u32], values: &[u32], out: &mut [u8]) {
-    let room = take_length(out.len());
-    write_into(header, costs, values, &mut out[0..room]);
+    let written = record::write(header, costs, values, out);
+    put_reply(written);
+    put(&written.unwrap_or(0).to_le_bytes()[..4]);
+    put(out);
 }
 
 fn write_record(header: Header, costs: &[u32], values: &[u32]) {
     let mut out = [BYTE_MARK; 8100];
-    write_into_part(header, costs, values, &mut out);
+    let room = take_length(out.len());
+    write_into(header, costs, values, &mut out[..room]);
 }
 
 fn read_and_write(bytes: &[u8], costs: &mut [u32], values: &mut [u32]) {
-    let outcome = record::read(bytes, costs, values);
-    let reply = outcome.reply;
-    let header = outcome.header;
-    put_reply(reply);
+    let read = record::read(bytes, costs, values);
+    let header = read.unwrap_or(NO_HEADER);
+    put_reply(read);
     put_header(header);
     put_entries(costs);
     put_entries(values);
@@ -220,21 +164,21 @@ fn read_given(bytes: &mut [u8], costs: &mut [u32], values: &mut [u32]) {
     let m = take_length(costs.len());
     let n = take_length(values.len());
     let length = take_length(bytes.len());
-    io::read_full(STDIN, &mut bytes[0..length]);
-    read_and_write(&bytes[0..length], &mut costs[0..m], &mut values[0..n]);
+    io::read_full(STDIN, &mut bytes[..length]);
+    read_and_write(&bytes[..length], &mut costs[..m], &mut values[..n]);
 }
 
 fn write_given(costs: &mut [u32], values: &mut [u32]) {
     let header = take_header();
     let m = take_length(costs.len());
     let n = take_length(values.len());
-    take_entries(&mut costs[0..m]);
-    take_entries(&mut values[0..n]);
-    write_record(header, &costs[0..m], &values[0..n]);
+    take_entries(&mut costs[..m]);
+    take_entries(&mut values[..n]);
+    write_record(header, &costs[..m], &values[..n]);
 }
 
 fn run_case() {
-    let mut bytes = [0u8; 9000];
+    let mut bytes = [0; 9000];
     let mut costs = [COST_MARK; 1010];
     let mut values = [VALUE_MARK; 1010];
     read_given(&mut bytes, &mut costs, &mut values);
@@ -242,9 +186,7 @@ fn run_case() {
 }
 
 fn main() {
-    let mut cases = take_u32();
-    while cases > 0 {
+    for _ in 0..take_u32() {
         run_case();
-        cases -= 1;
     }
 }

@@ -1,29 +1,54 @@
 -- The count of steps: after each step the arrays say what each row needs with so many steps. A row that is reached needs its floor with one step
 -- more, so only the rows reached in the last two steps offer something new, and only rows that are not reached take it. Assumes nothing.
-use mathlib.Core.Path.{◌≡◌, sym, ap, ◌∙◌}
+use mathlib.Core.Path.{◌≡◌, refl, sym, ap, ◌∙◌}
+use mathlib.Core.Bool.{Bool, true, false}
+use Rattle.std.proofs.Common.{Some, None}
+use Rattle.std.proofs.lemmas.Bool.{leb-false}
+use Rattle.std.proofs.lemmas.Option.{cond_some, none-some}
 use mathlib.Core.Logic.{◌⊎◌, ⊎_elim, inl, inr}
 use mathlib.Core.List.{List}
 use Prim.Native.Nat.{ℕ, suc, ◌+◌, ◌-◌, ◌≤◌, ◌<◌}
 use native.Mathlib.Decide.{ℕ_discrete, dec_lt}
 use native.Mathlib.Numerals.{add-one}
 use native.Mathlib.Omega.{arith}
-use borrow.Author.Tests.{eq-eqb, ne_eqb, lt-ltb, le-ltb}
-use lib.Dec.{T, leb→le, le→leb}
+use borrow.Author.Tests.{eq-eqb, ne_eqb, lt-ltb, le-ltb, le-leb, lt-leb, leb-true}
+use lib.Dec.{T, leb, leb→le, le→leb}
 use lib.ListN.{length, get_or, set, length-set, replicate, length-replicate, get_or-replicate}
 use lib.Seq.{get_or-set_same, get_or-set_other}
 use Rattle.grid.specs.Rows.{rows_of}
-use Rattle.grid.specs.Below.{Strides}
 use Rattle.exchange.specs.Work.{Work}
 use Rattle.exchange.specs.Search.{follows, least_floor, need, count}
 use Rattle.exchange.proofs.TablePlan.Count.{count_is, settled_none}
 use Rattle.exchange.proofs.TableLaws.{row_start}
 use Rattle.exchange.proofs.TablePlan.Floor.{IsLeast, floor_is_least}
 use Rattle.exchange.proofs.TablePlan.Need.{follows↔, need_le, need_own, need_paid, need_never_rises}
-use Rattle.search.specs.Layers.{mark, never, rows_work, Searchable, Front, front, row_at, floor_of, need_at, Best, Notes, Kept, Same, New, CanStep, Stepped, Arrival, Begun, need_read, Says, Counted}
+use Rattle.search.specs.Layers.{mark, never, rows_work, Searchable, Front, front, row_at, floor_of, need_at, Best, Kept, Same, New, CanStep, Stepped, Arrival, Begun, need_read, Says, steps_found, Counted}
 use Rattle.search.specs.declared.Terms.{Terms}
 use Rattle.search.specs.declared.layers.Window.{Window}
+use Rattle.search.specs.declared.notes.Notes.{Notes}
 use Rattle.search.proofs.ReadLaws.{read_before, read_then, read_after}
 use Rattle.search.proofs.ListLaws.{below_le, below_none, below_more}
+
+-- ---- the number of steps, if there is one
+
+module _ (w : Work) (most : ℕ) where
+  steps_some : {n : ℕ} → n ≡ count w mark most → n ≤ most → Some n ≡ steps_found w most
+  steps_some {n} e l = rw (← e, le-leb n most l)
+
+  steps_none : most < count w mark most → None ≡ steps_found w most
+  steps_none l = rw (lt-leb (count w mark most) most l)
+
+  pub some_steps : {n : ℕ} → Some n ≡ steps_found w most → (n ≡ count w mark most) × (n ≤ most)
+  some_steps {n} e =
+      let x = cond_some (leb (count w mark most) most) (count w mark most) n (sym e) in
+      (sym x.1, omega (arith, leb-true (count w mark most) most x.0, x.1))
+
+  pub none_steps : None ≡ steps_found w most → most < count w mark most
+  none_steps e = go (leb (count w mark most) most) refl
+    where
+      go : (x : Bool) → leb (count w mark most) most ≡ x → most < count w mark most
+      go true q = absurd (none-some (count w mark most) (e ∙ rw q))
+      go false q = leb-false (count w mark most) most q
 
 module _ (w : Work) (most : ℕ) where
   counted_at : (j : ℕ) → 0 < j → j ≤ most → need w mark j 0 ≤ 0 → ((i : ℕ) → i < j → 0 < need w mark i 0) → j ≡ count w mark most
@@ -39,16 +64,6 @@ module _ (w : Work) (most : ℕ) where
       go : Dec (count w mark most < most + 1) → most + 1 ≡ count w mark most
       go (yes l) = absurd (omega (arith, none (count w mark most) (omega arith), leb→le (need w mark (count w mark most) 0) 0 ((count_is w mark most).passes (omega arith))))
       go (no n) = omega (arith, (count_is w mark most).within)
-
--- ---- whether a row of the window ends the search
-
-pub arrival_passed : {caps : List ℕ} {f : Front} {i : ℕ} → (Arrival caps f i → ⊥) → (need_at f i ≤ get_or caps 0 0 → floor_of f i ≡ 0 → ⊥)
-    → Arrival caps f (i + 1) → ⊥
-arrival_passed {caps} {f} {i} none not x = go (ℕ_discrete x.index i)
-  where
-    go : Dec (x.index ≡ i) → ⊥
-    go (yes q) = not (rw (← q) x.affords) (rw (← q) x.free)
-    go (no m) = none (record { index = x.index; begin = x.begin; below = omega (arith, x.below); affords = x.affords; free = x.free })
 
 -- ---- the count
 
@@ -168,7 +183,7 @@ module _ {t : Terms} {us held caps floors : List ℕ} (g : Searchable t us held 
     j = v.step
 
     abbrev f : Front
-    f = front floors r.firsts r.found v
+    f = front floors r v
 
     pub end_few : v.end ≤ 128
     end_few = omega (arith, h.kept.counted, below_le never r.reached 128)
@@ -176,13 +191,13 @@ module _ {t : Terms} {us held caps floors : List ℕ} (g : Searchable t us held 
     pub found_few : (i : ℕ) → i < v.end → get_or r.found i 0 < 128
     found_few i l = omega (arith, h.in_rows i l, few)
 
-    pub counting_none : (most : ℕ) → most ≤ j → Counted w most r.reached r.firsts floors (most + 1)
+    pub counting_none : (most : ℕ) → most ≤ j → Counted w most r.reached r.firsts floors None
     counting_none most l =
         record {
-          count_is = counted_none w most (λ i k. h.unfinished i (omega arith));
+          count_is = steps_none w most (omega (arith, counted_none w most (λ i k. h.unfinished i (omega arith))));
           reached_long = h.kept.reached_long;
           firsts_long = h.kept.firsts_long;
-          reaches = λ (q : most + 1 ≤ most). absurd (omega arith);
+          reaches = λ n q. absurd (none-some n q);
         }
 
     -- what a row needs with one step more than it was reached in, or with more
@@ -218,17 +233,9 @@ module _ {t : Terms} {us held caps floors : List ℕ} (g : Searchable t us held 
               rw (le-ltb i v.fresh (omega arith))
               (sym (read_then r.reached r.firsts floors j (row_at f i) (sym (h.at_last i (omega arith) l))) ∙ h.says j (row_at f i) (omega arith) (h.in_rows i l))
 
-      pub can_step : {strides list : List ℕ} → j + 1 < never → Strides us strides → length list ≡ 129 → CanStep us strides held caps floors list r v
-      can_step later s long =
+      pub can_step : {list : List ℕ} → j + 1 < never → length list ≡ 129 → CanStep us caps floors list r v
+      can_step later long =
           record {
-            can_offer =
-                record {
-                  small = g.small;
-                  strides_are = s;
-                  units_are = g.units_are;
-                  -- where the bounds rise, no row has a cap above that of a row that holds it
-                  rise = record { cap_rises = λ a b l m t. g.lawful.cap_rises a b (omega (arith, all)) (omega (arith, all)) t };
-                };
             offerers =
                 record {
                   few = end_few;
@@ -268,14 +275,15 @@ module _ {t : Terms} {us held caps floors : List ℕ} (g : Searchable t us held 
               inl (rw e at (need_le w mark (j - 1) a b lb t x))
 
       -- a row of the window ends the search: these are the fewest steps
-      pub counting_found : (most : ℕ) → Arrival caps f v.end → j < most → Counted w most r.reached r.firsts floors (j + 1)
-      counting_found most x l =
-          rw add-one
+      pub counting_found : (most : ℕ) → Arrival caps f v.end → j < most → {n : ℕ} → j + 1 ≡ n → Counted w most r.reached r.firsts floors (Some n)
+      counting_found most x l {n} e =
+          let next : n ≡ suc j = omega arith in
+          rw next
           (record {
-            count_is = counted_at w most (suc j) (omega arith) l enough (λ i k. h.unfinished i (omega arith));
+            count_is = steps_some w most (counted_at w most (suc j) (omega arith) l enough (λ i k. h.unfinished i (omega arith))) l;
             reached_long = h.kept.reached_long;
             firsts_long = h.kept.firsts_long;
-            reaches = λ _. record { says = λ i a q l. h.says i a (omega arith) l; enough = enough };
+            reaches = λ k q. let z : suc j ≡ k = cc in rw (← z) (record { says = λ i a q l. h.says i a (omega arith) l; enough = enough });
           })
         where
           in_deal : row_at f x.index ≤ w.last
@@ -356,14 +364,14 @@ module _ {t : Terms} {us held caps floors : List ℕ} (g : Searchable t us held 
         offer_need a l k = best_need a (get_or step.next a 0) l k (step.offered a (omega (arith, all)))
 
         -- no row was reached in the last step and none is in this one: no more steps change a need
-        pub counting_settled : (most : ℕ) → v'.from ≡ m → Counted w most r'.reached r'.firsts floors (most + 1)
+        pub counting_settled : (most : ℕ) → v'.from ≡ m → Counted w most r'.reached r'.firsts floors None
         counting_settled most still =
             record {
               count_is =
-                  omega (arith, settled_none w mark most g.lawful j (λ a l. same a l (dec_lt (get_or r.reached a 0) never)) (h.unfinished j (omega arith)), (count_is w mark most).within);
+                  steps_none w most (omega (arith, settled_none w mark most g.lawful j (λ a l. same a l (dec_lt (get_or r.reached a 0) never)) (h.unfinished j (omega arith)), (count_is w mark most).within));
               reached_long = step.noted.grown.kept.reached_long;
               firsts_long = step.noted.grown.kept.firsts_long;
-              reaches = λ (q : most + 1 ≤ most). absurd (omega arith);
+              reaches = λ n q. absurd (none-some n q);
             }
           where
             z : v.fresh ≡ m

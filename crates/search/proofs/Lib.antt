@@ -1,4 +1,3 @@
-pub mod BoolLaws
 pub mod LimitLaws
 pub mod AlikeLaws
 pub mod OfferLaws

@@ -1,21 +1,20 @@
 -- The caps and the floors of the rows, and which rows hold which. Assumes nothing.
-use mathlib.Core.Path.{◌≡◌, refl, ◌∙◌}
+use mathlib.Core.Path.{◌≡◌, refl}
 use mathlib.Core.Bool.{Bool, true, false}
 use mathlib.Core.List.{List}
-use Prim.Native.Nat.{ℕ, ◌+◌, ◌≤◌, ◌<◌}
-use native.Mathlib.Decide.{ℕ_discrete, dec_lt}
+use Prim.Native.Nat.{ℕ, ◌≤◌, ◌<◌}
+use native.Mathlib.Decide.{dec_lt}
 use native.Mathlib.Omega.{arith}
-use lib.ListN.{length, get_or, set, replicate, length-set, length-replicate, get_or-replicate, get_or-eq_default}
-use lib.Seq.{get_or-set_same, get_or-set_other}
+use lib.ListN.{length, get_or, replicate, length-replicate, get_or-replicate, get_or-eq_default}
 use Rattle.grid.specs.Rows.{rows_of}
 use Rattle.exchange.specs.Forms.{holds_row}
 use Rattle.exchange.proofs.TablePlan.RowUnits.{holds_rises}
-use Rattle.search.specs.Layers.{Lists}
+use Rattle.search.specs.Layers.{Lists, Each}
 
--- ---- the loops over the rows
+-- ---- the limits of the rows
 
-pub lists_none : (f : ℕ → ℕ) → Lists f (replicate 128 0) 0
-lists_none f =
+pub each_none : (answer : ℕ → ℕ → Type 0) (cells : List ℕ) → Each answer cells (replicate 128 0) 0
+each_none answer cells =
     record { long = length-replicate {A = ℕ} 128 0; entry = λ a l. absurd (omega arith); rest = λ a l. zero_at a (dec_lt a 128) }
   where
     zeros : List ℕ
@@ -27,18 +26,10 @@ lists_none f =
         let past : length zeros ≤ a = omega (arith, length-replicate {A = ℕ} 128 0) in
         get_or-eq_default zeros 0 past
 
--- one entry more
-pub lists_more : {f : ℕ → ℕ} {array : List ℕ} {i v : ℕ} → Lists f array i → i < 128 → v ≡ f i → Lists f (set array i v) (i + 1)
-lists_more {f} {array} {i} {v} h l e =
-    record {
-      long = length-set array i v ∙ h.long;
-      entry = λ a k. go a k (ℕ_discrete a i);
-      rest = λ a k. get_or-set_other array i a v 0 (λ q. omega arith) ∙ h.rest a (omega arith);
-    }
-  where
-    go : (a : ℕ) → a < i + 1 → Dec (a ≡ i) → get_or (set array i v) a 0 ≡ f a
-    go a k (yes q) = rw (q, ← e) (get_or-set_same array i v 0 (omega (arith, h.long)))
-    go a k (no n) = get_or-set_other array i a v 0 n ∙ h.entry a (omega arith)
+-- where each answer is a number
+pub each_lists : {answer : ℕ → ℕ → Type 0} {cells array : List ℕ} {n : ℕ} (f : ℕ → ℕ) → Each answer cells array n
+    → ((a v : ℕ) → a < n → answer (get_or cells a 0) v → v ≡ f a) → Lists f array n
+each_lists f h same = record { long = h.long; entry = λ a l. same a _ l (h.entry a l); rest = h.rest }
 
 -- ---- rows held
 

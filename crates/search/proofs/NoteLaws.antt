@@ -1,5 +1,5 @@
 -- The loop that notes the rows reached in a step. Assumes nothing.
-use mathlib.Core.Path.{◌≡◌, refl, sym, ap, ◌∙◌}
+use mathlib.Core.Path.{◌≡◌, sym, ap, ◌∙◌}
 use mathlib.Core.Logic.{◌⊎◌, ⊎_elim, inl, inr}
 use mathlib.Core.List.{List}
 use Prim.Native.Nat.{ℕ, suc, ◌+◌, ◌≤◌, ◌<◌}
@@ -8,7 +8,8 @@ use native.Mathlib.Numerals.{add-one}
 use native.Mathlib.Omega.{arith}
 use lib.ListN.{get_or, set, length-set}
 use lib.Seq.{get_or-set_same, get_or-set_other}
-use Rattle.search.specs.Layers.{never, Among, Listing, Notes, notes, Kept, Same, New, Noting, Noted}
+use Rattle.search.specs.declared.notes.Notes.{Notes}
+use Rattle.search.specs.Layers.{never, Among, Listing, Same, New, Noting, Noted}
 use Rattle.search.proofs.ListLaws.{below_more, below_room}
 
 -- a list of one entry more
@@ -22,32 +23,21 @@ among_not {list} {i} {a} none not x = go (ℕ_discrete x.index i)
     go (yes q) = not (rw (← q) x.entry)
     go (no z) = none (record { index = x.index; below = omega (arith, x.below); entry = x.entry })
 
-pub noting_start : (next list : List ℕ) (step : ℕ) (r : Notes) (end : ℕ) → Kept r end → Noting next list step end r r 0 end
-noting_start next list step r end k =
-    record {
-      grown = record { kept = k; more = omega arith; had = λ a l. same a; found_kept = λ i l. refl };
-      waited = λ a l. inl (same a, λ (x : Among list 0 a). omega (arith, x.below));
-      found_new = λ i l m. absurd (omega arith);
-    }
-  where
-    same : (a : ℕ) → Same r r a
-    same a = record { step_same = refl; first_same = refl }
-
-module _ {next list : List ℕ} {step end i m : ℕ} {r : Notes} {reached firsts found : List ℕ} (h : Noting next list step end r (notes reached firsts found) i m) (early : step < never)
+module _ {next list : List ℕ} {step end i m : ℕ} {r now : Notes} (h : Noting next list step end r now i m) (early : step < never)
     (a : ℕ) (e : a ≡ get_or list i 0) where
   -- the row is reached already
-  pub noting_passed : get_or reached a 0 < never → Noting next list step end r (notes reached firsts found) (i + 1) m
+  pub noting_passed : get_or now.reached a 0 < never → Noting next list step end r now (i + 1) m
   noting_passed l =
       record {
         grown = h.grown;
         waited = λ b w.
-            ⊎_elim (λ x. inl (x.0, among_not x.1 (λ q. omega (arith, x.0.step_same, ap (λ (z : ℕ). get_or reached z 0) (e ∙ q), l, w))))
+            ⊎_elim (λ x. inl (x.0, among_not x.1 (λ q. omega (arith, x.0.step_same, ap (λ (z : ℕ). get_or now.reached z 0) (e ∙ q), l, w))))
             (λ x. inr (x.0, among_more x.1)) (h.waited b w);
         found_new = λ k p q. (among_more (h.found_new k p q).0, (h.found_new k p q).1);
       }
 
   -- it is reached now
-  module _ (few : a < 128) (l : never ≤ get_or reached a 0) where
+  module _ (few : a < 128) (l : never ≤ get_or now.reached a 0) where
     waits : never ≤ get_or r.reached a 0
     waits = go (dec_lt (get_or r.reached a 0) never)
       where
@@ -56,63 +46,63 @@ module _ {next list : List ℕ} {step end i m : ℕ} {r : Notes} {reached firsts
         go (no m) = omega arith
 
     pub noting_room : m < 128
-    noting_room = omega (arith, below_room never reached a step (omega (arith, h.grown.kept.reached_long)) early l 128 few, h.grown.kept.counted)
+    noting_room = omega (arith, below_room never now.reached a step (omega (arith, h.grown.kept.reached_long)) early l 128 few, h.grown.kept.counted)
 
-    step_there : get_or (set reached a step) a 0 ≡ step
-    step_there = get_or-set_same reached a step 0 (omega (arith, h.grown.kept.reached_long))
+    step_there : get_or (set now.reached a step) a 0 ≡ step
+    step_there = get_or-set_same now.reached a step 0 (omega (arith, h.grown.kept.reached_long))
 
-    found_there : get_or (set found m a) m 0 ≡ a
-    found_there = get_or-set_same found m a 0 (omega (arith, noting_room, h.grown.kept.found_long))
+    found_there : get_or (set now.found m a) m 0 ≡ a
+    found_there = get_or-set_same now.found m a 0 (omega (arith, noting_room, h.grown.kept.found_long))
 
-    found_other : (k : ℕ) → k < m → get_or (set found m a) k 0 ≡ get_or found k 0
-    found_other k q = get_or-set_other found m k a 0 (λ z. omega arith)
+    found_other : (k : ℕ) → k < m → get_or (set now.found m a) k 0 ≡ get_or now.found k 0
+    found_other k q = get_or-set_other now.found m k a 0 (λ z. omega arith)
 
     module _ (v : ℕ) (f : v ≡ get_or next a 0) where
       abbrev after : Notes
-      after = notes (set reached a step) (set firsts a v) (set found m a)
+      after = record { reached = set now.reached a step; firsts = set now.firsts a v; found = set now.found m a }
 
-      step_other : (b : ℕ) → (b ≡ a → ⊥) → get_or (set reached a step) b 0 ≡ get_or reached b 0
-      step_other b n = get_or-set_other reached a b step 0 n
+      step_other : (b : ℕ) → (b ≡ a → ⊥) → get_or (set now.reached a step) b 0 ≡ get_or now.reached b 0
+      step_other b n = get_or-set_other now.reached a b step 0 n
 
-      same_other : (b : ℕ) → (b ≡ a → ⊥) → Same r (notes reached firsts found) b → Same r after b
+      same_other : (b : ℕ) → (b ≡ a → ⊥) → Same r now b → Same r after b
       same_other b n x =
-          record { step_same = step_other b n ∙ x.step_same; first_same = get_or-set_other firsts a b v 0 n ∙ x.first_same }
+          record { step_same = step_other b n ∙ x.step_same; first_same = get_or-set_other now.firsts a b v 0 n ∙ x.first_same }
 
       own : New next step end after (m + 1) a
       own =
           record {
             step_is = step_there;
-            first_is = get_or-set_same firsts a v 0 (omega (arith, h.grown.kept.firsts_long)) ∙ f;
+            first_is = get_or-set_same now.firsts a v 0 (omega (arith, h.grown.kept.firsts_long)) ∙ f;
             index = m;
             begin = h.grown.more;
             below = omega arith;
             entry = found_there;
           }
 
-      new_other : (b : ℕ) → (b ≡ a → ⊥) → New next step end (notes reached firsts found) m b → New next step end after (m + 1) b
+      new_other : (b : ℕ) → (b ≡ a → ⊥) → New next step end now m b → New next step end after (m + 1) b
       new_other b n x =
           record {
             step_is = step_other b n ∙ x.step_is;
-            first_is = get_or-set_other firsts a b v 0 n ∙ x.first_is;
+            first_is = get_or-set_other now.firsts a b v 0 n ∙ x.first_is;
             index = x.index;
             begin = x.begin;
             below = omega (arith, x.below);
             entry = found_other x.index x.below ∙ x.entry;
           }
 
-      noting_more : Noting next list step end r (notes (set reached a step) (set firsts a v) (set found m a)) (i + 1) (m + 1)
-      noting_more =
+      pub noting_next : Noting next list step end r after (i + 1) (m + 1)
+      noting_next =
           record {
             grown =
                 record {
                   kept =
                       record {
-                        reached_long = length-set reached a step ∙ h.grown.kept.reached_long;
-                        firsts_long = length-set firsts a v ∙ h.grown.kept.firsts_long;
-                        found_long = length-set found m a ∙ h.grown.kept.found_long;
+                        reached_long = length-set now.reached a step ∙ h.grown.kept.reached_long;
+                        firsts_long = length-set now.firsts a v ∙ h.grown.kept.firsts_long;
+                        found_long = length-set now.found m a ∙ h.grown.kept.found_long;
                         counted =
                             rw add-one
-                            (ap suc h.grown.kept.counted ∙ sym (below_more never reached a step (omega (arith, h.grown.kept.reached_long)) early l 128 few));
+                            (ap suc h.grown.kept.counted ∙ sym (below_more never now.reached a step (omega (arith, h.grown.kept.reached_long)) early l 128 few));
                       };
                   more = omega (arith, h.grown.more);
                   had = λ b p. same_other b (λ q. omega (arith, waits, ap (λ (z : ℕ). get_or r.reached z 0) q, p)) (h.grown.had b p);
@@ -133,19 +123,15 @@ module _ {next list : List ℕ} {step end i m : ℕ} {r : Notes} {reached firsts
               (λ x. inr (new_other b n x.0, among_more x.1)) (h.waited b p)
 
           at : (k : ℕ) → end ≤ k → k < m + 1 → Dec (k ≡ m)
-              → Among list (i + 1) (get_or (set found m a) k 0) × (get_or (set reached a step) (get_or (set found m a) k 0) 0 ≡ step)
+              → Among list (i + 1) (get_or (set now.found m a) k 0) × (get_or (set now.reached a step) (get_or (set now.found m a) k 0) 0 ≡ step)
           at k p q (yes z) = rw (z, found_there) (here, step_there)
           at k p q (no z) =
               let x = h.found_new k p (omega arith) in
-              rw (found_other k (omega arith)) (among_more x.0, go (ℕ_discrete (get_or found k 0) a) x.1)
+              rw (found_other k (omega arith)) (among_more x.0, go (ℕ_discrete (get_or now.found k 0) a) x.1)
             where
-              go : Dec (get_or found k 0 ≡ a) → get_or reached (get_or found k 0) 0 ≡ step → get_or (set reached a step) (get_or found k 0) 0 ≡ step
+              go : Dec (get_or now.found k 0 ≡ a) → get_or now.reached (get_or now.found k 0) 0 ≡ step → get_or (set now.reached a step) (get_or now.found k 0) 0 ≡ step
               go (yes y) x = rw (y, step_there)
-              go (no y) x = step_other (get_or found k 0) y ∙ x
-
-      -- as the row is read from the list
-      pub noting_next : Noting next list step end r (notes (set reached a step) (set firsts a v) (set found m (get_or list i 0))) (i + 1) (m + 1)
-      noting_next = rw (← e) noting_more
+              go (no y) x = step_other (get_or now.found k 0) y ∙ x
 
 -- the list has the rows with an offer
 pub noted : {next list : List ℕ} {step end n m rows : ℕ} {r r' : Notes} → Listing next list n rows → Noting next list step end r r' n m

@@ -2,7 +2,7 @@
 use mathlib.Core.Path.{◌≡◌, refl, sym, ◌∙◌}
 use mathlib.Core.Bool.{Bool, true, false, cond, ◌&&◌}
 use mathlib.Core.List.{List}
-use Prim.Native.Nat.{ℕ, min, ◌+◌, ◌-◌, ◌≤◌, ◌<◌}
+use Prim.Native.Nat.{ℕ, min, ◌+◌, ◌≤◌, ◌<◌}
 use native.Mathlib.Decide.{ℕ_discrete, dec_lt}
 use native.Mathlib.Omega.{arith}
 use borrow.Author.Tests.{le-leb, lt-leb}
@@ -13,7 +13,8 @@ use Rattle.grid.specs.Rows.{rows_of}
 use Rattle.exchange.specs.Forms.{holds_row}
 use Rattle.exchange.proofs.TableLaws.{row_self}
 use Rattle.exchange.proofs.TablePlan.RowUnits.{holds_rises}
-use Rattle.held.specs.Down.{Open, Down}
+use Rattle.std.proofs.Common.{Option, Some, IfSome}
+use Rattle.held.specs.Down.{Open, Down, rows_left}
 use Rattle.search.specs.Layers.{mark, offer_to, Offers, Front, row_at, floor_of, need_at, OffersTo, Taken, Best, Offered}
 
 is_true : (x : Bool) → T x → x ≡ true
@@ -38,54 +39,57 @@ unfolding offer_to
 judges us caps b need floor a o x = rw (is_true (holds_row us a b) x.held, le-leb need (get_or caps a 0) x.pays)
 
 module _ (us caps : List ℕ) (b need floor : ℕ) where
-  -- the rows from k on have been offered the floor of row b; the others have not, and the first of them is open
-  pub record Offering (next₀ next : List ℕ) (k : ℕ) : Type 0 where
+  -- the rows after this one have been offered the floor of row b; it and those before it have not, and it is open
+  pub record Offering (next₀ next : List ℕ) (row : Option ℕ) : Type 0 where
     pub long : length next ≡ 128
-    pub within : k ≤ b + 1
-    pub opens : 0 < k → Open us caps b need (k - 1)
-    pub done : (a : ℕ) → k ≤ a → a < rows_of us → get_or next a 0 ≡ offer_to us caps b need floor a (get_or next₀ a 0)
-    pub left : (a : ℕ) → a < k → get_or next a 0 ≡ get_or next₀ a 0
+    pub within : rows_left row ≤ b + 1
+    pub opens : IfSome row (λ a. Open us caps b need a)
+    pub done : (a : ℕ) → rows_left row ≤ a → a < rows_of us → get_or next a 0 ≡ offer_to us caps b need floor a (get_or next₀ a 0)
+    pub left : (a : ℕ) → a < rows_left row → get_or next a 0 ≡ get_or next₀ a 0
 
   -- no row after row b is held by it
-  pub offering_start : (next : List ℕ) → length next ≡ 128 → b < rows_of us → need ≤ get_or caps b 0 → Offering next next (b + 1)
+  pub offering_start : (next : List ℕ) → length next ≡ 128 → b < rows_of us → need ≤ get_or caps b 0 → Offering next next (Some b)
   offering_start next p few pays =
-      let e : b + 1 - 1 ≡ b = omega arith in
       record {
         long = p;
         within = omega arith;
-        opens = λ _. rw e (record { held = row_self us b; pays = pays });
+        opens = record { held = row_self us b; pays = pays };
         done = λ a m s. keeps us caps b need floor a (get_or next a 0) (λ o. omega (arith, holds_rises us a b s few o.held));
         left = λ a m. refl;
       }
 
-  module _ {next₀ next : List ℕ} {k : ℕ} (h : Offering next₀ next k) where
-    pub offering_done : k ≤ 0 → Offers (offer_to us caps b need floor) (rows_of us) next₀ next
-    offering_done z = record { long = h.long; offer_is = λ a s. h.done a (omega arith) s }
+  module _ {next₀ next : List ℕ} {row : Option ℕ} (h : Offering next₀ next row) where
+    module _ {at : ℕ} (here : row ≡ Some at) where
+      pub offering_row : (at ≤ b) × Open us caps b need at
+      offering_row = (omega (arith, rw here at h.within), rw here at h.opens)
 
-    -- from row k - 1 to the next open row down
-    pub offering_next : 0 < k → b < 128 → {k' : ℕ} → Down us caps b need (k - 1) k' → {v : ℕ} → v ≡ min floor (get_or next (k - 1) 0)
-        → Offering next₀ (set next (k - 1) v) k'
-    offering_next more few {k'} d {v} e =
-        record {
-          long = length-set next (k - 1) v ∙ h.long;
-          within = omega (arith, h.within, d.lower);
-          opens = d.opens;
-          done = λ a m s. go a m s (ℕ_discrete a (k - 1)) (dec_lt a k);
-          left = λ a m. other a (λ z. omega (arith, d.lower)) ∙ h.left a (omega (arith, d.lower));
-        }
-      where
-        other : (a : ℕ) → (a ≡ k - 1 → ⊥) → get_or (set next (k - 1) v) a 0 ≡ get_or next a 0
-        other a n = get_or-set_other next (k - 1) a v 0 n
+      left_is : rows_left row ≡ at + 1
+      left_is = rw here
 
-        here : v ≡ offer_to us caps b need floor (k - 1) (get_or next₀ (k - 1) 0)
-        here = rw (← h.left (k - 1) (omega arith)) (e ∙ sym (judges us caps b need floor (k - 1) (get_or next (k - 1) 0) (h.opens more)))
+      -- from this row to the next open row down
+      pub offering_next : b < 128 → {row' : Option ℕ} → Down us caps b need at row' → {v : ℕ} → v ≡ min floor (get_or next at 0)
+          → Offering next₀ (set next at v) row'
+      offering_next few {row'} d {v} e =
+          record {
+            long = length-set next at v ∙ h.long;
+            within = omega (arith, offering_row.0, d.lower);
+            opens = d.opens;
+            done = λ a m s. go a m s (ℕ_discrete a at) (dec_lt a at);
+            left = λ a m. other a (λ z. omega (arith, d.lower)) ∙ h.left a (omega (arith, d.lower, left_is));
+          }
+        where
+          other : (a : ℕ) → (a ≡ at → ⊥) → get_or (set next at v) a 0 ≡ get_or next a 0
+          other a n = get_or-set_other next at a v 0 n
 
-        go : (a : ℕ) → k' ≤ a → a < rows_of us → Dec (a ≡ k - 1) → Dec (a < k)
-            → get_or (set next (k - 1) v) a 0 ≡ offer_to us caps b need floor a (get_or next₀ a 0)
-        go a m s (yes z) c = rw z (get_or-set_same next (k - 1) v 0 (omega (arith, h.within, h.long)) ∙ here)
-        -- the rows that are passed over keep their offers
-        go a m s (no z) (yes c) = other a z ∙ h.left a c ∙ keeps us caps b need floor a (get_or next₀ a 0) (d.passed a m (omega arith))
-        go a m s (no z) (no c) = other a z ∙ h.done a (omega arith) s
+          offered : v ≡ offer_to us caps b need floor at (get_or next₀ at 0)
+          offered = rw (← h.left at (omega (arith, left_is))) (e ∙ sym (judges us caps b need floor at (get_or next at 0) offering_row.1))
+
+          go : (a : ℕ) → rows_left row' ≤ a → a < rows_of us → Dec (a ≡ at) → Dec (a < at)
+              → get_or (set next at v) a 0 ≡ offer_to us caps b need floor a (get_or next₀ a 0)
+          go a m s (yes z) c = rw z (get_or-set_same next at v 0 (omega (arith, offering_row.0, h.long)) ∙ offered)
+          -- the rows that are passed over keep their offers
+          go a m s (no z) (yes c) = other a z ∙ h.left a (omega (arith, left_is)) ∙ keeps us caps b need floor a (get_or next₀ a 0) (d.passed a m c)
+          go a m s (no z) (no c) = other a z ∙ h.done a (omega (arith, left_is)) s
 
 -- ---- the loop over the rows that offer
 

@@ -1,6 +1,7 @@
 -- Planning a table: what the parts of the search make of the promise. Assumes nothing.
+use Rattle.std.proofs.Common.{Option, Some, None}
 use mathlib.Core.Path.{◌≡◌, refl, sym, ap, ◌∙◌}
-use mathlib.Core.Bool.{true, false, false≢true}
+use mathlib.Core.Bool.{true, false, cond, false≢true}
 use mathlib.Core.List.{List, map}
 use Prim.Native.Nat.{ℕ, ◌-◌, ◌≤◌, ◌<◌}
 use native.Mathlib.Decide.{dec_lt}
@@ -22,45 +23,48 @@ use Rattle.exchange.proofs.TableLaws.{row_self, row_start}
 use Rattle.exchange.proofs.TablePlan.{table_counted, table_earliest}
 use Rattle.exchange.proofs.TablePlan.Count.{count_plan}
 use Rattle.exchange.proofs.TablePlan.Forward.{forwards_length}
+use Rattle.exchange.specs.declared.Sides.{Sides}
 use Rattle.search.specs.declared.Terms.{Terms}
-use Rattle.search.specs.Promise.{Rise, Success}
-use Rattle.search.specs.Layers.{mark, working, rows_work, Caps, Floors, Searchable, Counted, Walked, Room, CanWalk, starts_by, Fitted, Found}
+use Rattle.search.specs.Promise.{Rise, suits, Success}
+use Rattle.search.specs.Layers.{mark, working, rows_work, Caps, Floors, Searchable, Counted, Room, CanWalk, starts_by, Fitted, Found}
 use Rattle.search.proofs.AlikeLaws.{Alike, count_alike, forwards_alike}
-use Rattle.search.proofs.SuitLaws.{Suits, some_units, start↔, units_few_lem}
+use Rattle.search.proofs.CountLaws.{some_steps, none_steps}
+use Rattle.search.proofs.SuitLaws.{suits_is, fit, some_units, start↔, units_few_lem}
 
--- a table that suits
-pub fitted : {t : Terms} {us costs values places sums work : List ℕ} {n : ℕ} → Suits us costs values places sums work → n ≡ most_steps us
-    → t.rows ≡ length costs → Rise us costs values → length us ≤ 4 → t.sides.price ≤ limit → Fitted t us costs values n places sums
-fitted {t} {us} {costs} s e rows rise items within =
-    let r : t.rows ≡ rows_of us = rows ∙ s.costs_all in
-    record {
-      within = within;
-      good = record { rows_are = r; some = rw r s.some; few = rw r s.few };
-      small = record { items = items; rows = s.few };
-      costs_all = s.costs_all;
-      values_all = s.values_all;
-      rise = rise;
-      early = omega (arith, e, units_few_lem us, s.few);
-      room = record { places_room = omega (arith, s.places_room, e); sums_room = omega (arith, s.sums_room, e) };
-    }
+-- ---- a table that suits
+
+module _ (us costs values places sums work : List ℕ) {n : ℕ} (e : Some n ≡ cond (suits us costs values places sums work) (Some (most_steps us)) None) where
+  pub suited : suits us costs values places sums work ≡ true
+  suited = (fit us costs values places sums work e).0
+
+  pub all_steps : n ≡ most_steps us
+  all_steps = (fit us costs values places sums work e).1
+
+  pub fitted : (p : Sides) → Rise us costs values × (length us ≤ 4) × (p.price ≤ limit)
+      → Fitted (record { sides = p; rows = length costs }) us costs values n places sums
+  fitted p asked =
+      let s = suits_is us costs values places sums work suited in
+      record {
+        within = asked.2;
+        good = record { rows_are = s.costs_all; some = omega (arith, s.some, s.costs_all); few = omega (arith, s.few, s.costs_all) };
+        small = record { items = asked.1; rows = s.few };
+        costs_all = s.costs_all;
+        values_all = s.values_all;
+        rise = asked.0;
+        early = omega (arith, all_steps, units_few_lem us, s.few);
+        room = record { places_room = omega (arith, s.places_room, all_steps); sums_room = omega (arith, s.sums_room, all_steps) };
+      }
 
 -- ---- the search by the arrays of the rows
 
-module _ {w : Work} {most k : ℕ} {reached firsts floors places sums : List ℕ} (c : Counted w most reached firsts floors k) where
-  pub can_walk : Room most places sums → k ≤ most → CanWalk w reached firsts floors k places sums
-  can_walk r l =
+module _ {w : Work} {most k : ℕ} {reached firsts floors places sums : List ℕ} (c : Counted w most reached firsts floors (Some k)) where
+  pub can_walk : Room most places sums → CanWalk w reached firsts floors k places sums
+  can_walk r =
+      let l = (some_steps w most c.count_is).1 in
       record {
-        reaches = c.reaches l;
-        room = record { places_room = omega (arith, r.places_room); sums_room = omega (arith, r.sums_room) };
+        reaches = c.reaches k refl;
+        room = record { places_room = omega (arith, r.places_room, l); sums_room = omega (arith, r.sums_room, l) };
       }
-
-  pub found_none : most < k → Found w most k places places sums sums
-  found_none l =
-      record { count_is = c.count_is; written = λ m. absurd (omega arith); places_kept = λ _. refl; sums_kept = λ _. refl }
-
-  pub found_plan : k ≤ most → {places' sums' : List ℕ} → Walked w k places places' sums sums' → Found w most k places places' sums sums'
-  found_plan l walked =
-      record { count_is = c.count_is; written = λ _. walked; places_kept = λ m. absurd (omega arith); sums_kept = λ m. absurd (omega arith) }
 
 module _ {t : Terms} {us costs values places sums : List ℕ} {most : ℕ} (f : Fitted t us costs values most places sums) where
   -- no price reaches the mark
@@ -112,19 +116,21 @@ module _ {t : Terms} {us costs values places sums : List ℕ} {most : ℕ} (f : 
     searchable u = record { good = f.good; small = f.small; units_are = u; high = high; lawful = rows_lawful }
 
     -- what is found by the arrays is found of the table
-    pub found_same : {k : ℕ} {places' sums' : List ℕ} → Found w most k places places' sums sums' → Found (working t us costs values) most k places places' sums sums'
-    found_same {k} {places'} {sums'} h =
+    pub found_same : {r : Option ℕ} {places' sums' : List ℕ} → Found w most r places places' sums sums'
+        → Found (working t us costs values) most r places places' sums sums'
+    found_same {r} {places'} {sums'} h =
         record {
-          count_is = h.count_is ∙ count_alike alike mark most;
-          written = λ l. record { places_are = rw (← same l) (h.written l).places_are; sums_are = rw (← same l) (h.written l).sums_are };
+          count_is = h.count_is ∙ rw (count_alike alike mark most);
+          written = λ n q. record { places_are = rw (← same n q) (h.written n q).places_are; sums_are = rw (← same n q) (h.written n q).sums_are };
           places_kept = h.places_kept;
           sums_kept = h.sums_kept;
         }
       where
-        same : k ≤ most → forwards w mark k start ≡ forwards (working t us costs values) mark k start
-        same l =
-            forwards_alike alike mark k start (omega arith)
-            (rw h.count_is (count_plan w mark most rows_lawful high (omega (arith, h.count_is))).steps)
+        same : (n : ℕ) → r ≡ Some n → forwards w mark n start ≡ forwards (working t us costs values) mark n start
+        same n q =
+            let x = some_steps w most (sym q ∙ h.count_is) in
+            forwards_alike alike mark n start (omega arith)
+            (rw x.0 (count_plan w mark most rows_lawful high (omega (arith, x.0, x.1))).steps)
 
   -- ---- the answers
 
@@ -134,28 +140,30 @@ module _ {t : Terms} {us costs values places sums : List ℕ} {most : ℕ} (f : 
       let q = table_counted t.sides us costs values f.costs_all f.values_all f.rise.costs_rise f.rise.values_rise mark ys p in
       false≢true (sym unsafe ∙ (start↔ t us costs values f.good).1 q.0)
 
-  module _ (all : most ≡ most_steps us) {k : ℕ} {places' sums' : List ℕ} (found : Found (working t us costs values) most k places places' sums sums') where
-    counts : k ≡ count (working t us costs values) mark (most_steps us)
-    counts = rw (← all) found.count_is
+  -- no count of steps
+  pub no_count : most ≡ most_steps us → {places' sums' : List ℕ} → Found (working t us costs values) most None places places' sums sums'
+      → (ys : List State) → Plan (table t.sides us costs values) ys → ⊥
+  no_count all found ys p =
+      let q = table_counted t.sides us costs values f.costs_all f.values_all f.rise.costs_rise f.rise.values_rise mark ys p in
+      omega (arith, rw all at (none_steps _ most found.count_is), q.1)
 
-    -- no count of steps
-    pub no_count : most < k → (ys : List State) → Plan (table t.sides us costs values) ys → ⊥
-    no_count l ys p =
-        let q = table_counted t.sides us costs values f.costs_all f.values_all f.rise.costs_rise f.rise.values_rise mark ys p in
-        omega (arith, q.1, all, counts)
+  module _ (all : most ≡ most_steps us) {k : ℕ} {places' sums' : List ℕ} (found : Found (working t us costs values) most (Some k) places places' sums sums') where
+    counts : k ≡ count (working t us costs values) mark (most_steps us)
+    counts = rw (← all) (some_steps _ most found.count_is).0
 
     -- the plan that the areas hold
-    pub planned_success : starts_by t costs values ≡ true → k ≤ most → {places₂ sums₂ : List ℕ}
+    pub planned_success : starts_by t costs values ≡ true → {places₂ sums₂ : List ℕ}
         → Cleared 2 places' places₂ k → Cleared 4 sums' sums₂ k → Success (table t.sides us costs values) k places sums places₂ sums₂
-    planned_success safe l {places₂} {sums₂} cp cz =
-        let wp = (found.written l).places_are in
-        let ws = (found.written l).sums_are in
+    planned_success safe {places₂} {sums₂} cp cz =
+        let l = (some_steps _ most found.count_is).1 in
+        let wp = (found.written k refl).places_are in
+        let ws = (found.written k refl).sums_are in
         record {
           plan = xs;
           earliest =
               rw counts
               (table_earliest t.sides us costs values f.costs_all f.values_all f.rise.costs_rise f.rise.values_rise mark
-              high (some_units us (omega (arith, f.good.some, f.good.rows_are))) ((start↔ t us costs values f.good).0 safe) (omega (arith, counts, all)));
+              high (some_units us (omega (arith, f.good.some, f.good.rows_are))) ((start↔ t us costs values f.good).0 safe) (omega (arith, counts, all, l)));
           steps = sym size;
           places_are = filled 2 _ places places' places₂ k (long _) wp.front wp.remainder_kept wp.length_kept cp;
           sums_are = filled 4 _ sums sums' sums₂ k (long _) ws.front ws.remainder_kept ws.length_kept cz;

@@ -1,8 +1,7 @@
 -- What the arrays of the search say that a row needs. Assumes nothing.
 use mathlib.Core.Path.{◌≡◌}
 use mathlib.Core.List.{List}
-use Prim.Native.Nat.{ℕ, ◌≤◌, ◌<◌}
-use native.Mathlib.Decide.{dec_lt}
+use Prim.Native.Nat.{ℕ, ◌<◌}
 use native.Mathlib.Omega.{arith}
 use borrow.Author.Tests.{eq-eqb, ne_eqb, lt-ltb, le-ltb}
 use lib.ListN.{get_or}
@@ -18,10 +17,3 @@ module _ (reached firsts floors : List ℕ) (i a : ℕ) where
 
   pub read_after : get_or reached a 0 < i → need_read reached firsts floors i a ≡ get_or floors a 0
   read_after h = rw (le-ltb i (get_or reached a 0) (omega arith), ne_eqb i (get_or reached a 0) (λ e. omega arith))
-
-pub after_step : (j step : ℕ) → step ≤ j → (j ≡ step → ⊥) → step < j
-after_step j step h n = go (dec_lt step j)
-  where
-    go : Dec (step < j) → step < j
-    go (yes l) = l
-    go (no m) = absurd (n (omega arith))

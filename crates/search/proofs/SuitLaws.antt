@@ -1,16 +1,17 @@
 -- Whether the rows, cells and areas suit, and whether the start is safe. Assumes nothing.
-use mathlib.Core.Path.{◌≡◌, refl, ◌∙◌}
+use Rattle.std.proofs.Common.{Some, None, sum}
+use Rattle.std.proofs.lemmas.Option.{cond_some, none-some}
+use Rattle.std.proofs.lemmas.List.Sums.{sum_by-cons}
+use mathlib.Core.Path.{◌≡◌, refl, sym, ap, ◌∙◌}
 use mathlib.Core.Logic.{◌↔◌}
 use mathlib.Core.Bool.{Bool, true, false, cond, and-eq-true_iff}
 use mathlib.Core.List.{List, [], ◌∷◌, foldr}
 use Prim.Native.Nat.{ℕ, zero, suc, ◌+◌, ◌*◌, ◌≤◌, ◌<◌}
 use native.Mathlib.Nat.{mul-le-mul_right}
-use native.Mathlib.Numerals.{add-one}
 use native.Mathlib.Omega.{arith}
 use borrow.Author.Tests.{lt-ltb, le-leb, eq-eqb, ltb-true, leb-true, eqb-true}
 use lib.Dec.{leb}
-use lib.ListN.{length, get_or, drop}
-use lib.Seq.{drop-cons}
+use lib.ListN.{length}
 use Rattle.area.specs.Entries.{entries}
 use Rattle.grid.specs.Rows.{rows_of}
 use Rattle.grid.proofs.RowLaws.{rows_pos}
@@ -24,13 +25,6 @@ use Rattle.search.specs.declared.Terms.{Terms}
 
 -- ---- units
 
--- one item more
-pub units_cons : (j sum : ℕ) (us : List ℕ) → j < length us → sum + foldr ◌+◌ 0 (drop j us) ≡ foldr ◌+◌ 0 us
-    → sum + get_or us j 0 + foldr ◌+◌ 0 (drop (j + 1) us) ≡ foldr ◌+◌ 0 us
-units_cons j sum us h e =
-    let d : foldr ◌+◌ 0 (drop j us) ≡ get_or us j 0 + foldr ◌+◌ 0 (drop (j + 1) us) = rw (add-one, drop-cons us j 0 h) in
-    omega arith
-
 -- fewer units than rows
 pub units_few_lem : (us : List ℕ) → foldr ◌+◌ 0 us < rows_of us
 unfolding rows_of
@@ -38,6 +32,14 @@ units_few_lem [] = omega arith
 units_few_lem (u ∷ us) =
     let m : 1 * u ≤ rows_of us * u = mul-le-mul_right u (rows_pos us) in
     omega (arith, units_few_lem us)
+
+-- all units, as `most_steps` adds them
+pub units_sum : (us : List ℕ) → sum us ≡ foldr ◌+◌ 0 us
+units_sum [] = refl
+units_sum (u ∷ us) = sum_by-cons (λ x. x) u us ∙ ap (λ (n : ℕ). u + n) (units_sum us)
+
+pub units_fit : (us : List ℕ) → rows_of us ≤ 128 → sum us < 128
+units_fit us few = omega (arith, units_sum us, units_few_lem us)
 
 one_row : (us : List ℕ) → foldr ◌+◌ 0 us ≡ 0 → rows_of us ≡ 1
 unfolding rows_of
@@ -67,7 +69,7 @@ pub record Suits (us costs values places sums work : List ℕ) : Type 0 where
   pub work_room : rows_of us * (most_steps us + 1) ≤ length work
 
 module _ (us costs values places sums work : List ℕ) where
-  suits_is : suits us costs values places sums work ≡ true → Suits us costs values places sums work
+  pub suits_is : suits us costs values places sums work ≡ true → Suits us costs values places sums work
   unfolding suits
   suits_is e =
       let a = (and-eq-true_iff _ _).0 e in
@@ -86,48 +88,38 @@ module _ (us costs values places sums work : List ℕ) where
         work_room = leb-true _ _ a.1;
       }
 
-  pub suits_yes : Suits us costs values places sums work → suits us costs values places sums work ≡ true
+  suits_yes : Suits us costs values places sums work → suits us costs values places sums work ≡ true
   unfolding suits
   suits_yes s =
       rw (lt-ltb _ _ s.some, le-leb _ _ s.few, eq-eqb _ _ s.costs_all, eq-eqb _ _ s.values_all, le-leb _ _ s.places_room, le-leb _ _ s.sums_room)
       (le-leb _ _ s.work_room)
 
-  pub most_none : (Suits us costs values places sums work → ⊥) → 0 ≡ cond (suits us costs values places sums work) (most_steps us) 0
+  pub most_none : (Suits us costs values places sums work → ⊥) → None ≡ cond (suits us costs values places sums work) (Some (most_steps us)) None
   most_none n = go (suits us costs values places sums work) refl
     where
-      go : (x : Bool) → suits us costs values places sums work ≡ x → 0 ≡ cond x (most_steps us) 0
+      go : (x : Bool) → suits us costs values places sums work ≡ x → None ≡ cond x (Some (most_steps us)) None
       go true e = absurd (n (suits_is e))
       go false e = refl
 
-  pub most_some : (n : ℕ) → n ≡ most_steps us → Suits us costs values places sums work → n ≡ cond (suits us costs values places sums work) (most_steps us) 0
-  most_some n e s = rw (suits_yes s) e
+  pub most_some : (n : ℕ) → n ≡ most_steps us → Suits us costs values places sums work
+      → Some n ≡ cond (suits us costs values places sums work) (Some (most_steps us)) None
+  most_some n e s = rw (suits_yes s, ← e)
 
   -- what the answer says of them
-  module _ (n : ℕ) (e : n ≡ cond (suits us costs values places sums work) (most_steps us) 0) where
-    pub unfit : n ≡ 0 → suits us costs values places sums work ≡ false
-    unfit z = go (suits us costs values places sums work) refl
-      where
-        go : (x : Bool) → suits us costs values places sums work ≡ x → suits us costs values places sums work ≡ false
-        go true q = absurd (omega (arith, rw q at e))
-        go false q = q
+  pub fit : {n : ℕ} → Some n ≡ cond (suits us costs values places sums work) (Some (most_steps us)) None
+      → (suits us costs values places sums work ≡ true) × (n ≡ most_steps us)
+  fit {n} e =
+      let x = cond_some (suits us costs values places sums work) (most_steps us) n (sym e) in
+      (x.0, sym x.1)
 
-    pub fit : (n ≡ 0 → ⊥) → Suits us costs values places sums work × (n ≡ most_steps us)
-    fit z = go (suits us costs values places sums work) refl
-      where
-        go : (x : Bool) → suits us costs values places sums work ≡ x → Suits us costs values places sums work × (n ≡ most_steps us)
-        go true q = (suits_is q, rw q at e)
-        go false q = absurd (z (rw q at e))
+-- the number of rows, if there are few
+pub rows_fit : (us : List ℕ) {n : ℕ} → Some n ≡ cond (leb (rows_of us) 128) (Some (rows_of us)) None → (n ≡ rows_of us) × (rows_of us ≤ 128)
+rows_fit us {n} e =
+    let x = cond_some (leb (rows_of us) 128) (rows_of us) n (sym e) in
+    (sym x.1, leb-true _ _ x.0)
 
--- the number of rows, where it is not 0
-pub rows_fit : (us : List ℕ) (r : ℕ) → r ≡ cond (leb (rows_of us) 128) (rows_of us) 0 → 1 < r → (r ≡ rows_of us) × (rows_of us ≤ 128)
-rows_fit us r e h = go (leb (rows_of us) 128) refl
-  where
-    go : (x : Bool) → leb (rows_of us) 128 ≡ x → (r ≡ rows_of us) × (rows_of us ≤ 128)
-    go true q = (rw q at e, leb-true _ _ q)
-    go false q = absurd (omega (arith, rw q at e))
-
-pub rows_few : (us : List ℕ) (r : ℕ) → r ≡ cond (leb (rows_of us) 128) (rows_of us) 0 → rows_of us ≤ 128 → r ≡ rows_of us
-rows_few us r e h = e ∙ rw (le-leb _ _ h)
+pub rows_many : (us : List ℕ) → None ≡ cond (leb (rows_of us) 128) (Some (rows_of us)) None → rows_of us ≤ 128 → ⊥
+rows_many us e h = none-some (rows_of us) (e ∙ rw (le-leb _ _ h))
 
 -- ---- the start
 

@@ -1,4 +1,5 @@
 -- The plan read forwards. Assumes nothing.
+use Rattle.std.proofs.Common.{Option, Some, None, IsSome, rules}
 use mathlib.Core.Path.{◌≡◌, refl, sym, ap, subst, ◌∙◌}
 use mathlib.Core.Bool.{Bool, true, false, ◌&&◌}
 use mathlib.Core.List.{List, [], ◌∷◌, ◌++◌, map, append-nil, append_assoc}
@@ -6,7 +7,6 @@ use Prim.Native.Nat.{ℕ, zero, suc, ◌+◌, ◌-◌, ◌≤◌, ◌<◌}
 use native.Mathlib.Nat.{add-zero, zero-add}
 use native.Mathlib.Numerals.{add-one}
 use native.Mathlib.Omega.{arith}
-use borrow.Author.Tests.{le-leb, lt-leb}
 use lib.Dec.{leb}
 use lib.ListN.{length, get_or}
 use lib.Seq.{take-suc-set}
@@ -21,22 +21,9 @@ use Rattle.exchange.proofs.TablePlan.Forward.{forwards_steps}
 use Rattle.held.specs.Words.{holds_word}
 use Rattle.held.proofs.WordLaws.{held_word}
 use Rattle.search.specs.declared.Terms.{Terms}
-use Rattle.search.specs.Layers.{mark, rows_work, Searchable, need_read, delivers, first_row, Written, Walked, CanWalk}
+use Rattle.search.specs.Layers.{mark, rows_work, Searchable, need_read, delivers, first_row, IsFirst, Written, Walked, CanWalk}
 use Rattle.search.proofs.LimitLaws.{not_held}
 use Rattle.search.proofs.AlikeLaws.{first_ext}
-use Rattle.search.proofs.BoolLaws.{and_false, and_true}
-
--- ---- one row's test
-
-module _ (t : Bool) (needs cap floor paid : ℕ) where
-  pub fits_shut : cap < needs → false ≡ (t && leb needs cap && leb floor paid)
-  fits_shut h = sym (rw (lt-leb needs cap h, and_false t))
-
-  pub fits_uncovered : paid < floor → false ≡ (t && leb needs cap && leb floor paid)
-  fits_uncovered h = sym (rw (lt-leb floor paid h) (and_false (t && leb needs cap)))
-
-  pub fits_held : needs ≤ cap → floor ≤ paid → t ≡ (t && leb needs cap && leb floor paid)
-  fits_held h k = sym (rw (le-leb needs cap h, le-leb floor paid k, and_true (t && true)) (and_true t))
 
 -- ---- the first row that passes
 
@@ -53,9 +40,6 @@ first_skip f i (suc c) k h =
 pub record Looking (held floors : List ℕ) (needs : ℕ → ℕ) (cap a paid rows b : ℕ) : Type 0 where
   pub within : b ≤ rows
   pub same : first_row held floors needs cap a paid rows b ≡ first_row held floors needs cap a paid rows a
-
-pub looking_start : {held floors : List ℕ} {needs : ℕ → ℕ} {cap a paid rows : ℕ} → a < rows → Looking held floors needs cap a paid rows a
-looking_start h = record { within = omega arith; same = refl }
 
 module _ {held floors : List ℕ} {needs : ℕ → ℕ} {cap a paid rows b : ℕ} (l : Looking held floors needs cap a paid rows b) where
   pub looking_none : rows ≤ b → rows ≡ first_row held floors needs cap a paid rows a
@@ -147,6 +131,11 @@ module _ {t : Terms} {us held caps floors : List ℕ} (g : Searchable t us held 
 
   module _ {steps : ℕ} {places₀ places sums₀ sums : List ℕ} {k : ℕ} (h : Walking w steps places₀ places sums₀ sums (suc m) k a paid)
       (places_room : k < length (entries 2 places₀)) (sums_room : k < length (entries 4 sums₀)) where
+    -- the row found is one of the table's
+    pub walking_there : first_row held floors needs (get_or caps a 0) a paid t.rows a < t.rows
+    unfolding forwards forward
+    walking_there = omega (arith, row_forward, h.on.0.in_deal, g.good.some)
+
     pub walking_turn : {b : ℕ} {places' sums' : List ℕ} → b ≡ first_row held floors needs (get_or caps a 0) a paid t.rows a
         → Stored 2 places places' k b → Stored 4 sums sums' k (get_or caps a 0) → Walking w steps places₀ places' sums₀ sums' m (k + 1) b (get_or caps a 0)
     unfolding forwards forward
@@ -174,52 +163,80 @@ module _ {t : Terms} {us held caps floors : List ℕ} (g : Searchable t us held 
         next : (h.front ++ u ∷ forwards w mark m u) ≡ (h.front ++ forwards w mark (suc m) s)
         next = rw one
 
-pub walking_done : (w : Work) (steps : ℕ) (places₀ places sums₀ sums : List ℕ) (left k a paid : ℕ)
-    → Walking w steps places₀ places sums₀ sums left k a paid → k + left ≡ steps → left ≡ 0 → Walked w steps places₀ places sums₀ sums
+pub walking_done : (w : Work) (steps : ℕ) (places₀ places sums₀ sums : List ℕ) (left a paid : ℕ)
+    → Walking w steps places₀ places sums₀ sums left steps a paid → left ≡ 0 → Walked w steps places₀ places sums₀ sums
 unfolding forwards
-walking_done w steps places₀ places sums₀ sums left k a paid h c z =
-    let e : k ≡ steps = omega arith in
+walking_done w steps places₀ places sums₀ sums left a paid h z =
     let f : h.front ≡ forwards w mark steps start = sym (append-nil h.front) ∙ (rw z at h.whole) in
-    record { places_are = rw (← f, ← e) h.places_are; sums_are = rw (← f, ← e) h.sums_are }
+    record { places_are = rw (← f) h.places_are; sums_are = rw (← f) h.sums_are }
+
+-- the row that was found, if one is
+pub first_some : {rows n : ℕ} (r : Option ℕ) → IsFirst rows n r → n < rows → IsSome r
+first_some (Some b) x l = search rules
+first_some None x l = absurd (omega arith)
+
+pub first_is : {rows n b : ℕ} {r : Option ℕ} → IsFirst rows n r → r ≡ Some b → (b < rows) × (b ≡ n)
+first_is x q = rw q at x
 
 -- the walk as the code has it
-pub record Going (w : Work) (steps : ℕ) (places₀ places sums₀ sums : List ℕ) (left k a paid : ℕ) : Type 0 where
-  pub counts : k + left ≡ steps
+pub record Going (w : Work) (steps : ℕ) (places₀ places sums₀ sums : List ℕ) (k a paid : ℕ) : Type 0 where
+  pub within : k ≤ steps
   pub places_long : length places ≡ length places₀
   pub sums_long : length sums ≡ length sums₀
-  pub walking : Walking w steps places₀ places sums₀ sums left k a paid
+  pub walking : Walking w steps places₀ places sums₀ sums (steps - k) k a paid
 
 module _ {t : Terms} {us held caps floors reached firsts : List ℕ} {steps : ℕ} {places₀ sums₀ : List ℕ} (g : Searchable t us held caps floors)
     (can : CanWalk (rows_work t us caps floors) reached firsts floors steps places₀ sums₀) where
-  pub going_start : Going (rows_work t us caps floors) steps places₀ places₀ sums₀ sums₀ steps 0 0 0
+  pub going_start : Going (rows_work t us caps floors) steps places₀ places₀ sums₀ sums₀ 0 0 0
   going_start =
+      let all : steps ≡ steps - 0 = omega arith in
       record {
-        counts = omega arith;
+        within = omega arith;
         places_long = refl;
         sums_long = refl;
-        walking = walking_start (rows_work t us caps floors) g.lawful g.high can;
+        walking =
+            subst (λ (z : ℕ). Walking (rows_work t us caps floors) steps places₀ places₀ sums₀ sums₀ z 0 0 0) all
+            (walking_start (rows_work t us caps floors) g.lawful g.high can);
       }
 
-  module _ {places sums : List ℕ} {left k a paid : ℕ} (h : Going (rows_work t us caps floors) steps places₀ places sums₀ sums left k a paid) where
+  module _ {places sums : List ℕ} {k a paid : ℕ} (h : Going (rows_work t us caps floors) steps places₀ places sums₀ sums k a paid) where
     pub going_in : a < t.rows
     going_in = omega (arith, h.walking.in_deal, g.good.some)
 
-    pub going_on : {b : ℕ} {places' sums' : List ℕ} → 0 < left
-        → b ≡ first_row held floors (need_read reached firsts floors (left - 1)) (get_or caps a 0) a paid t.rows a
-        → Stored 2 places places' k b → Stored 4 sums sums' k (get_or caps a 0)
-        → Going (rows_work t us caps floors) steps places₀ places' sums₀ sums' (left - 1) (k + 1) b (get_or caps a 0)
-    going_on more e x y =
-        let one : left ≡ suc (left - 1) = omega arith in
-        record {
-          counts = omega (arith, h.counts);
-          places_long = x.length_kept ∙ h.places_long;
-          sums_long = y.length_kept ∙ h.sums_long;
-          walking =
-              walking_turn g (need_read reached firsts floors (left - 1)) (left - 1) a paid going_in
-              (λ b l. can.reaches.says (left - 1) b (omega (arith, h.counts)) l)
-              (subst (λ (z : ℕ). Walking (rows_work t us caps floors) steps places₀ places sums₀ sums z k a paid) one h.walking)
-              (omega (arith, can.room.places_room, h.counts)) (omega (arith, can.room.sums_room, h.counts)) e x y;
-        }
+    module _ (more : k < steps) where
+      abbrev left : ℕ
+      left = steps - 1 - k
 
-    pub going_done : left ≡ 0 → Walked (rows_work t us caps floors) steps places₀ places sums₀ sums
-    going_done z = walking_done (rows_work t us caps floors) steps places₀ places sums₀ sums left k a paid h.walking h.counts z
+      here : Walking (rows_work t us caps floors) steps places₀ places sums₀ sums (suc left) k a paid
+      here =
+          let one : steps - k ≡ suc left = omega arith in
+          subst (λ (z : ℕ). Walking (rows_work t us caps floors) steps places₀ places sums₀ sums z k a paid) one h.walking
+
+      reads : (b : ℕ) → b ≤ t.rows - 1 → need_read reached firsts floors left b ≡ need (rows_work t us caps floors) mark left b
+      reads b l = can.reaches.says left b (omega arith) l
+
+      pub going_there : first_row held floors (need_read reached firsts floors left) (get_or caps a 0) a paid t.rows a < t.rows
+      going_there =
+          walking_there g (need_read reached firsts floors left) left a paid going_in reads here
+          (omega (arith, can.room.places_room)) (omega (arith, can.room.sums_room))
+
+      pub going_on : {b : ℕ} {places' sums' : List ℕ} → b ≡ first_row held floors (need_read reached firsts floors left) (get_or caps a 0) a paid t.rows a
+          → Stored 2 places places' k b → Stored 4 sums sums' k (get_or caps a 0)
+          → Going (rows_work t us caps floors) steps places₀ places' sums₀ sums' (k + 1) b (get_or caps a 0)
+      going_on {b} {places'} {sums'} e x y =
+          let fewer : left ≡ steps - (k + 1) = omega arith in
+          record {
+            within = omega arith;
+            places_long = x.length_kept ∙ h.places_long;
+            sums_long = y.length_kept ∙ h.sums_long;
+            walking =
+                subst (λ (z : ℕ). Walking (rows_work t us caps floors) steps places₀ places' sums₀ sums' z (k + 1) b (get_or caps a 0)) fewer
+                (walking_turn g (need_read reached firsts floors left) left a paid going_in reads here
+                (omega (arith, can.room.places_room)) (omega (arith, can.room.sums_room)) e x y);
+          }
+
+    pub going_done : steps ≤ k → Walked (rows_work t us caps floors) steps places₀ places sums₀ sums
+    going_done z =
+        let e : k ≡ steps = omega (arith, h.within) in
+        walking_done (rows_work t us caps floors) steps places₀ places sums₀ sums (steps - k) a paid
+        (subst (λ (n : ℕ). Walking (rows_work t us caps floors) steps places₀ places sums₀ sums (steps - k) n a paid) e h.walking) (omega arith)

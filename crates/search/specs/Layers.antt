@@ -1,9 +1,8 @@
 -- The search as the code makes it: step by step, in each step the rows whose need has changed offer their floor.
-use Rattle.std.specs.Prelude.{◌≡◌, Bool, true, false, cond, ◌&&◌, ◌⊎◌, List, map, ℕ, zero, suc, min, ◌+◌, ◌-◌, ◌≤◌, ◌<◌, T, leb, ltb, eqb, get_or, set, length, take, replicate}
+use Rattle.std.specs.Prelude.{◌≡◌, Option, Some, None, Bool, true, false, cond, ◌&&◌, ◌⊎◌, List, map, ℕ, zero, suc, min, ◌+◌, ◌-◌, ◌≤◌, ◌<◌, T, leb, ltb, eqb, get_or, set, length, take, replicate}
 use Rattle.area.specs.Entries.{entries, remainder}
 use Rattle.grid.specs.Rows.{rows_of}
 use Rattle.grid.specs.Units.{Small, RowUnits}
-use Rattle.grid.specs.Below.{Strides}
 use Rattle.contract.specs.Contract.{limit}
 use Rattle.exchange.specs.Deal.{start}
 use Rattle.exchange.specs.Work.{Work, work_of, Lawful}
@@ -12,10 +11,10 @@ use Rattle.exchange.specs.Rule.{coins}
 use Rattle.exchange.specs.Forms.{table, holds_row}
 use Rattle.exchange.specs.Test.{start_test}
 use Rattle.exchange.specs.Search.{need, count, first_of, forwards}
-use Rattle.held.specs.Down.{CapsRise}
 use Rattle.held.specs.Words.{holds_word}
 use Rattle.search.specs.declared.Terms.{Terms}
 use Rattle.search.specs.declared.layers.Window.{Window}
+use Rattle.search.specs.declared.notes.Notes.{Notes}
 use Rattle.search.specs.Promise.{Rise}
 
 -- the sum of a row from which the end is not reached, above every price
@@ -51,6 +50,12 @@ pub record Lists (f : ℕ → ℕ) (array : List ℕ) (n : ℕ) : Type 0 where
   pub entry : (a : ℕ) → a < n → get_or array a 0 ≡ f a
   pub rest : (a : ℕ) → n ≤ a → get_or array a 0 ≡ 0
 
+-- each of the first n entries of an array of 128 is what is answered of its cell, and the others are 0
+pub record Each (answer : ℕ → ℕ → Type 0) (cells array : List ℕ) (n : ℕ) : Type 0 where
+  pub long : length array ≡ 128
+  pub entry : (a : ℕ) → a < n → answer (get_or cells a 0) (get_or array a 0)
+  pub rest : (a : ℕ) → n ≤ a → get_or array a 0 ≡ 0
+
 -- the first n entries of an array are the caps of the rows
 abbrev pub Caps : Terms → List ℕ → List ℕ → ℕ → Type 0
 Caps t costs = Lists (cap_at t.sides.price (get_or costs (t.rows - 1) 0) t.sides.supplier costs)
@@ -80,13 +85,6 @@ pub record Searchable (t : Terms) (us held caps floors : List ℕ) : Type 0 wher
 
 -- ---- offers
 
--- what an offer asks of the table: few rows, how many of them each item takes a unit, the units of each, and caps that rise
-pub record CanOffer (us strides held caps : List ℕ) : Type 0 where
-  pub small : Small us
-  pub strides_are : Strides us strides
-  pub units_are : RowUnits us held (rows_of us)
-  pub rise : CapsRise us caps
-
 -- the best offer of row a once row b offers its floor to the rows that it holds and that can pay what it needs
 unfoldable pub offer_to : List ℕ → List ℕ → ℕ → ℕ → ℕ → ℕ → ℕ → ℕ
 offer_to us caps b need floor a old = cond (holds_row us a b && leb need (get_or caps a 0)) (min floor old) old
@@ -103,9 +101,9 @@ pub record Front : Type 0 where
   pub found : List ℕ
   pub window : Window
 
--- the same, from these lists
-abbrev pub front : List ℕ → List ℕ → List ℕ → Window → Front
-front floors firsts found v = record { floors = floors; firsts = firsts; found = found; window = v }
+-- the same, by what was noted of the rows
+abbrev pub front : List ℕ → Notes → Window → Front
+front floors r v = record { floors = floors; firsts = r.firsts; found = r.found; window = v }
 
 -- the i-th row that was reached
 abbrev pub row_at : Front → ℕ → ℕ
@@ -184,16 +182,6 @@ pub record RowListed (list : List ℕ) (n a before : ℕ) (list' : List ℕ) (n'
 abbrev pub never : ℕ
 never = 65535
 
--- for each row the step in which it is reached and its first sum, and the rows in the order in which they are reached
-pub record Notes : Type 0 where
-  pub reached : List ℕ
-  pub firsts : List ℕ
-  pub found : List ℕ
-
--- the same, from these lists
-abbrev pub notes : List ℕ → List ℕ → List ℕ → Notes
-notes reached firsts found = record { reached = reached; firsts = firsts; found = found }
-
 -- arrays of 128 entries; `end` rows are reached
 pub record Kept (r : Notes) (end : ℕ) : Type 0 where
   pub reached_long : length r.reached ≡ 128
@@ -236,10 +224,9 @@ pub record Noted (next : List ℕ) (step end : ℕ) (r r' : Notes) (m rows : ℕ
   pub waits : (a : ℕ) → a < rows → never ≤ get_or r.reached a 0 → mark ≤ get_or next a 0 → Same r r' a
   pub found_new : (i : ℕ) → end ≤ i → i < m → (get_or r'.found i 0 < rows) × (get_or r'.reached (get_or r'.found i 0) 0 ≡ step)
 
--- what a step asks: what its offers ask, the rows of the window, the arrays of the rows, a list with a place more, and a step that has a number
-pub record CanStep (us strides held caps floors list : List ℕ) (r : Notes) (v : Window) : Type 0 where
-  pub can_offer : CanOffer us strides held caps
-  pub offerers : Offerers caps (front floors r.firsts r.found v) (rows_of us)
+-- what a step asks: the rows of the window, the arrays of the rows, a list with a place more, and a step that has a number
+pub record CanStep (us caps floors list : List ℕ) (r : Notes) (v : Window) : Type 0 where
+  pub offerers : Offerers caps (front floors r v) (rows_of us)
   pub kept : Kept r v.end
   pub list_long : length list ≡ 129
   pub early : v.step + 1 < never
@@ -248,7 +235,7 @@ pub record CanStep (us strides held caps floors list : List ℕ) (r : Notes) (v 
 pub record Stepped (us caps : List ℕ) (f : Front) (reached : List ℕ) (r' : Notes) (v' : Window) : Type 0 where
   pub next : List ℕ
   pub offered : Offered us caps f f.window.end next
-  pub noted : Noted next (f.window.step + 1) f.window.end (notes reached f.firsts f.found) r' v'.end (rows_of us)
+  pub noted : Noted next (f.window.step + 1) f.window.end (record { reached = reached; firsts = f.firsts; found = f.found }) r' v'.end (rows_of us)
   pub moved : v' ≡ record { step = f.window.step + 1; from = f.window.fresh; fresh = f.window.end; end = v'.end }
 
 -- ---- all steps
@@ -286,12 +273,16 @@ pub record Reached (w : Work) (reached firsts floors : List ℕ) (n : ℕ) : Typ
   pub says : Says w reached firsts floors (n - 1)
   pub enough : need w mark n 0 ≤ 0
 
+-- the fewest steps of a plan; none where no number up to the most is enough
+abbrev pub steps_found : Work → ℕ → Option ℕ
+steps_found w most = cond (leb (count w mark most) most) (Some (count w mark most)) None
+
 -- the answer of the count: the number of steps, and what the arrays say of it
-pub record Counted (w : Work) (most : ℕ) (reached firsts floors : List ℕ) (r : ℕ) : Type 0 where
-  pub count_is : r ≡ count w mark most
+pub record Counted (w : Work) (most : ℕ) (reached firsts floors : List ℕ) (r : Option ℕ) : Type 0 where
+  pub count_is : r ≡ steps_found w most
   pub reached_long : length reached ≡ 128
   pub firsts_long : length firsts ≡ 128
-  pub reaches : r ≤ most → Reached w reached firsts floors r
+  pub reaches : (n : ℕ) → r ≡ Some n → Reached w reached firsts floors n
 
 -- ---- the plan read forwards
 
@@ -302,6 +293,11 @@ delivers held floors needs cap a paid b = holds_word 4 (get_or held a 0) (get_or
 -- the first of the rows from b on that can be delivered at row a; the number of rows if none can
 unfoldable pub first_row : List ℕ → List ℕ → (ℕ → ℕ) → ℕ → ℕ → ℕ → ℕ → ℕ → ℕ
 first_row held floors needs cap a paid rows b = first_of (delivers held floors needs cap a paid) b (rows - b)
+
+-- the answer whether a row was found: row n, or none where n is the number of rows
+abbrev pub IsFirst : ℕ → ℕ → Option ℕ → Type 0
+IsFirst rows n (Some b) = (b < rows) × (b ≡ n)
+IsFirst rows n None = rows ≡ n
 
 -- the first k entries of an area are xs; a remainder too short for an entry and the length are as they were
 pub record Written (w : ℕ) (xs before after : List ℕ) (k : ℕ) : Type 0 where
@@ -337,9 +333,9 @@ pub record Fitted (t : Terms) (us costs values : List ℕ) (most : ℕ) (places 
   pub early : most < never
   pub room : Room most places sums
 
--- what it finds: the number of steps, and where that is at most the most, the plan in the areas; else they stay
-pub record Found (w : Work) (most n : ℕ) (places places' sums sums' : List ℕ) : Type 0 where
-  pub count_is : n ≡ count w mark most
-  pub written : n ≤ most → Walked w n places places' sums sums'
-  pub places_kept : most < n → places' ≡ places
-  pub sums_kept : most < n → sums' ≡ sums
+-- what it finds: the number of steps, if there is one, and the plan in the areas; else they stay
+pub record Found (w : Work) (most : ℕ) (r : Option ℕ) (places places' sums sums' : List ℕ) : Type 0 where
+  pub count_is : r ≡ steps_found w most
+  pub written : (n : ℕ) → r ≡ Some n → Walked w n places places' sums sums'
+  pub places_kept : r ≡ None → places' ≡ places
+  pub sums_kept : r ≡ None → sums' ≡ sums

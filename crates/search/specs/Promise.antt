@@ -1,5 +1,5 @@
 -- What planning a table promises.
-use Rattle.std.specs.Prelude.{◌≡◌, Bool, true, false, ◌&&◌, List, map, ℕ, ◌+◌, ◌*◌, leb, ltb, eqb, length, replicate}
+use Rattle.std.specs.Prelude.{◌≡◌, Result, Ok, Err, Option, Some, None, Bool, true, false, ◌&&◌, List, map, ℕ, ◌+◌, ◌*◌, leb, ltb, eqb, length, replicate}
 use Rattle.area.specs.Entries.{entries}
 use Rattle.area.specs.Filled.{Filled}
 use Rattle.grid.specs.Rows.{rows_of, rising}
@@ -7,7 +7,7 @@ use Rattle.exchange.specs.Deal.{Deal, State, Plan}
 use Rattle.exchange.specs.Forms.{table}
 use Rattle.exchange.specs.Fewest.{Earliest}
 use Rattle.exchange.specs.Search.{most_steps}
-use Rattle.exchange.specs.declared.Planned.{Planned}
+use Rattle.exchange.specs.declared.Unfit.{Unfit}
 use Rattle.exchange.specs.declared.Sides.{Sides}
 
 -- no cost and no value falls as units are added
@@ -31,15 +31,15 @@ pub record Success (d : Deal) (n : ℕ) (places sums places' sums' : List ℕ) :
   pub sums_are : Filled 4 (map (λ s. s.paid) plan) sums sums'
 
 -- what each answer says of the deal, and of the areas; the work area is zero after the search
-abbrev pub Answers : Deal → Bool → Planned → List ℕ → List ℕ → List ℕ → List ℕ → List ℕ → List ℕ → Type 0
-Answers d suit (Planned.Steps n) places sums work places' sums' work' =
+abbrev pub Answers : Deal → Bool → Result (Option ℕ) Unfit → List ℕ → List ℕ → List ℕ → List ℕ → List ℕ → List ℕ → Type 0
+Answers d suit (Ok (Some n)) places sums work places' sums' work' =
     (suit ≡ true) × (Success d n places sums places' sums' × (work' ≡ replicate (length work) 0))
-Answers d suit Planned.Impossible places sums work places' sums' work' =
+Answers d suit (Ok None) places sums work places' sums' work' =
     (suit ≡ true) × (((xs : List State) → Plan d xs → ⊥) × ((places' ≡ places) × ((sums' ≡ sums) × (work' ≡ replicate (length work) 0))))
-Answers d suit Planned.Unfit places sums work places' sums' work' =
+Answers d suit (Err e) places sums work places' sums' work' =
     (suit ≡ false) × ((places' ≡ places) × ((sums' ≡ sums) × (work' ≡ work)))
 
 -- the promise of planning a table, which asks for cells that rise
-abbrev pub Plans : Sides → List ℕ → List ℕ → List ℕ → Planned → List ℕ → List ℕ → List ℕ → List ℕ → List ℕ → List ℕ → Type 0
+abbrev pub Plans : Sides → List ℕ → List ℕ → List ℕ → Result (Option ℕ) Unfit → List ℕ → List ℕ → List ℕ → List ℕ → List ℕ → List ℕ → Type 0
 Plans p us costs values r places sums work places' sums' work' =
     Answers (table p us costs values) (suits us costs values places sums work) r places sums work places' sums' work'

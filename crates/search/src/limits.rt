@@ -1,38 +1,13 @@
 // The most and the least that is paid at each row, by its bounds.
-ghost use Rattle.std.specs.Prelude.{◌≡◌, ◌<◌, ◌≤◌, length, replicate};
-ghost use Rattle.grid.specs.Rows.{LastLargest};
-ghost use Rattle.search.specs.Layers.{Caps, Floors};
+ghost use Rattle.std.specs.Prelude.{◌≡◌, ℕ, ◌<◌, ◌≤◌, length, get_or, replicate};
+ghost use Rattle.search.specs.Layers.{Each};
 
-use super::Terms;
-
-// The caps of all rows.
-pub(crate) fn all_caps(t: Terms, costs: &[u32], caps: &mut [u32; 128])
-    requires { (0 < t.rows) × (t.rows ≤ 128) × (length costs.now ≡ t.rows) × (caps.old ≡ replicate 128 0) }
-    ensures { Caps t costs.now caps.new t.rows }
+// Of each row the limit by its cell. It is written where it stands, since an array that is returned would be copied.
+pub(crate) fn each_row<F: Fn(u32) -> u32>(cells: &[u32], limit: F, limits: &mut [u32; 128])
+    requires { ((a : ℕ) → a < length cells.now → F.pre limit (get_or cells.now a 0)) × (length cells.now ≤ 128) × (limits.old ≡ replicate 128 0) }
+    ensures { Each (F.post limit) cells.now limits.new (length cells.now) }
 {
-    let rows = t.rows;
-    let price = t.sides.price;
-    let supplier = t.sides.supplier;
-    let top = costs[rows - 1];
-    let mut a: usize = 0;
-    while a < rows {
-        caps[a] = exchange::most_paid(price, top, costs[a], supplier);
-        a += 1;
-    }
-}
-
-// The floors of all rows.
-pub(crate) fn all_floors(t: Terms, values: &[u32], floors: &mut [u32; 128])
-    requires { LastLargest values.now × (t.rows ≤ 128) × (length values.now ≡ t.rows) × (floors.old ≡ replicate 128 0) }
-    ensures { Floors t values.now floors.new t.rows }
-{
-    let rows = t.rows;
-    let price = t.sides.price;
-    let buyer = t.sides.buyer;
-    let top = values[rows - 1];
-    let mut b: usize = 0;
-    while b < rows {
-        floors[b] = exchange::least_paid(price, top, values[b], buyer);
-        b += 1;
+    for (a, &cell) in cells.iter().enumerate() {
+        limits[a] = limit(cell);
     }
 }

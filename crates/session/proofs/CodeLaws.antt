@@ -1,25 +1,25 @@
--- The tests of the code: of the steps passed over, of the open step, and what a report answers. Assumes nothing.
+-- What the code's tests say of a step and of a session. Assumes nothing.
 use mathlib.Core.Path.{◌≡◌, refl, sym, ap, ◌∙◌}
-use mathlib.Core.Bool.{Bool, true, false, not, and-true, and-false}
+use mathlib.Core.Bool.{Bool, true, false, not, ◌&&◌, and-eq-true_iff}
 use mathlib.Core.List.{List}
-use Prim.Native.Nat.{ℕ, zero, suc, ◌+◌, ◌-◌, ◌≤◌, ◌<◌}
+use Prim.Native.Nat.{ℕ, zero, suc, min, ◌+◌, ◌-◌, ◌≤◌, ◌<◌}
 use native.Mathlib.Numerals.{add-one}
 use native.Mathlib.Omega.{arith}
-use borrow.Author.Tests.{leb-false, lt-leb, eq-eqb, ne_eqb, not-true, not-false}
+use borrow.Author.Tests.{leb-true, eqb-true, leb-false, le-leb, lt-leb}
 use lib.Dec.{leb, eqb}
-use lib.ListN.{get_or}
-use Rattle.contract.specs.Res.{ok, test}
-use Rattle.exchange.specs.Deal.{State}
-use Rattle.exchange.specs.PlanIn.{plan_in}
+use lib.ListN.{length, get_or}
+use Rattle.area.specs.Entries.{entries}
+use Rattle.contract.specs.Res.{refused, ok}
+use Rattle.exchange.specs.Deal.{State, start, after}
 use Rattle.planning.specs.Check.{holds_count}
-use Rattle.session.specs.Session.{marked, mark, finished_by, awaited, fits, done, at_step, settle, settled, report_in, report_on, Reports}
-use Rattle.session.specs.Code.{Held, Open, entries_of, outstanding}
+use Rattle.session.specs.Session.{entry_of, awaited, moves, mark, finished_by, fits, done, at_step, settle, report_in, report_on}
+use Rattle.session.specs.Code.{Open, StandsAt, entries_of, step_at, steps_of}
+use Rattle.session.specs.declared.Plan.{Plan}
 use Rattle.session.specs.declared.Session.{Session}
+use Rattle.session.specs.declared.Step.{Step}
 use Rattle.session.specs.declared.Side.{Side}
 use Rattle.session.specs.declared.Side.TheVariants.{Delivery, Payment}
-use Rattle.session.specs.declared.Reply.TheVariants.{Taken, Short, Finished, Unfit}
-use Rattle.session.proofs.PlanLaws.{held_count, held_length}
-use Rattle.session.proofs.StepLaws.{side_entry, side_awaited}
+use Rattle.session.proofs.PlanLaws.{entry_before, held_count, count_held, held_length, held_after, held_before}
 
 -- ---- steps passed over
 
@@ -33,121 +33,120 @@ module _ (xs : List State) (s : Session) where
   unfolding settle
   settle_passes n e = rw e
 
-  module _ (count : ℕ) where
-    pub settle_end : count ≤ s.passed → settle xs (count - s.passed) s ≡ s
+  -- by the steps that are left
+  module _ (count k : ℕ) where
+    pub settle_end : count ≤ k → settle xs (count - k) s ≡ s
     unfolding settle
-    settle_end h = let e : count - s.passed ≡ 0 = omega arith in rw e
+    settle_end h = let e : count - k ≡ 0 = omega arith in rw e
 
-    pub settle_next : s.passed < count → done xs s ≡ true
-        → settle xs (count - (s.passed + 1)) (at_step (s.passed + 1)) ≡ settle xs (count - s.passed) s
-    settle_next h e =
-        let d : count - s.passed ≡ suc (count - suc s.passed) = omega arith in
-        rw (add-one s.passed, d) (sym (settle_passes (count - suc s.passed) e))
+    pub settle_next : s.passed ≡ k → k < count → done xs s ≡ true → settle xs (count - (k + 1)) (at_step (k + 1)) ≡ settle xs (count - k) s
+    settle_next p h e =
+        let d : count - k ≡ suc (count - suc k) = omega arith in
+        rw (add-one k, d) (sym (settle_passes (count - suc k) e ∙ rw p))
 
--- ---- a side of the open step
+-- ---- the step after k steps
 
-module _ (es : List ℕ) (entry : ℕ) where
-  pub marked_not : (k : ℕ) {m : Bool} → m ≡ true → false ≡ outstanding es k entry m
-  unfolding outstanding
-  marked_not k e = rw (e, and-false)
+module _ (p : Plan) (k : ℕ) (o : Open p k) where
+  pub side_entry : (side : Side) → get_or (entries_of side p) k 0 ≡ entry_of side (after start (steps_of p) (suc k))
+  side_entry Delivery = rw (held_after p o.held k o.before_end)
+  side_entry Payment = rw (held_after p o.held k o.before_end)
 
-  module _ {m : Bool} (e : m ≡ false) where
-    pub first_outstanding : (k : ℕ) → k ≡ 0 → not (eqb entry 0) ≡ outstanding es k entry m
-    unfolding outstanding
-    first_outstanding k f = rw (e, f, and-true)
+  side_before : (side : Side) → entry_before (entries_of side p) k ≡ entry_of side (after start (steps_of p) k)
+  side_before Delivery = rw (held_before p o.held k o.before_end)
+  side_before Payment = rw (held_before p o.held k o.before_end)
 
-    pub later_outstanding : (k : ℕ) → (k ≡ 0 → ⊥) → {b : ℕ} → b ≡ get_or es (k - 1) 0 → not (eqb entry b) ≡ outstanding es k entry m
-    unfolding outstanding
-    later_outstanding zero f g = absurd (f refl)
-    later_outstanding (suc k) f g = let m : suc k - 1 ≡ k = omega arith in rw (e, g, m, and-true)
+  -- by the entry of the step and that of the step before
+  pub moves_by : (side : Side) {a b : ℕ} → a ≡ get_or (entries_of side p) k 0 → b ≡ entry_before (entries_of side p) k
+      → not (eqb a b) ≡ moves (steps_of p) k side
+  unfolding moves
+  moves_by side e f = rw (e, f, side_entry side, side_before side)
 
--- ---- what a report answers
+  -- after it the plan stands at its entries
+  pub step_stands : StandsAt p (k + 1) (step_at p k)
+  step_stands = record { held = o.held; state_is = rw (add-one k) (held_after p o.held k o.before_end) }
 
-pub open_at : (count : ℕ) (places sums : List ℕ) (k : ℕ) → Held count places sums → {r : Bool} → r ≡ leb count k → r ≡ false
-    → Open count places sums k
-open_at count places sums k h e f = record { held = h; before_end = leb-false _ _ (sym e ∙ f) }
+  -- a step with no marks is done where it stays
+  module _ {here q : Step} (h : StandsAt p k here) (e : q ≡ step_at p k) where
+    pub stays_done : done (steps_of p) (at_step k) ≡ (eqb q.place here.place && eqb q.sum here.sum)
+    unfolding done awaited moves
+    stays_done = rw (e, held_after p o.held k o.before_end, h.state_is) (go _ _)
+      where
+        go : (x y : Bool) → (not (not x && true) && not (not y && true)) ≡ (x && y)
+        go true true = refl
+        go true false = refl
+        go false y = refl
 
--- the side that a report doesn't name
-abbrev other : Side → Side
-other Delivery = Payment
-other Payment = Delivery
+    pub still_stands : (eqb q.place here.place && eqb q.sum here.sum) ≡ true → StandsAt p (k + 1) here
+    still_stands f =
+        let (g, i) = (and-eq-true_iff _ _).0 f in
+        let (j, l) : (q.place ≡ here.place) × (q.sum ≡ here.sum) = (eqb-true _ _ g, eqb-true _ _ i) in
+        record { held = o.held; state_is = rw (add-one k, ← j, ← l, e) (held_after p o.held k o.before_end) }
 
--- a side that is marked is not awaited, so the other one decides
-mark_done : (xs : List State) (s : Session) (side : Side) → done xs (mark s side) ≡ not (awaited xs s (other side))
-unfolding done awaited
-mark_done xs s Delivery = rw and-false
-mark_done xs s Payment = rw (and-false, and-true)
+module _ (es : List ℕ) where
+  pub before_first : (k : ℕ) → k ≡ 0 → 0 ≡ entry_before es k
+  before_first zero e = refl
+  before_first (suc k) e = absurd (omega arith)
+
+  pub before_later : (k : ℕ) → (k ≡ 0 → ⊥) → get_or es (k - 1) 0 ≡ entry_before es k
+  before_later zero h = absurd (h refl)
+  before_later (suc k) h = let e : suc k - 1 ≡ k = omega arith in rw e
+
+-- the area with fewer entries decides
+pub fewer_decides : (p : Plan) {a b : ℕ} → a ≡ length (entries 2 p.places.now) → b ≡ length (entries 4 p.sums.now)
+    → leb p.count (min a b) ≡ holds_count p.count p.places.now p.sums.now
+unfolding holds_count
+fewer_decides p {a} {b} e f = rw (← e, ← f) (go (leb p.count a) (leb p.count b) refl refl)
+  where
+    go : (x y : Bool) → leb p.count a ≡ x → leb p.count b ≡ y → leb p.count (min a b) ≡ (leb p.count a && leb p.count b)
+    go true true g h = let (l, m) : (p.count ≤ a) × (p.count ≤ b) = (leb-true _ _ g, leb-true _ _ h) in rw (g, h) (le-leb _ _ (omega arith))
+    go false y g h = let l : a < p.count = leb-false _ _ g in rw g (lt-leb _ _ (omega arith))
+    go true false g h = let l : b < p.count = leb-false _ _ h in rw (g, h) (lt-leb _ _ (omega arith))
 
 mark_passed : (s : Session) (side : Side) → (mark s side).passed ≡ s.passed
 mark_passed s Delivery = refl
 mark_passed s Payment = refl
 
-module _ (count : ℕ) (places sums : List ℕ) (s : Session) where
-  module _ (side : Side) (n : ℕ) where
-    pub report_short : {r : Bool} → r ≡ holds_count count places sums → not r ≡ true
-        → Reports (report_in count places sums s side n) s (record { reply = Short; session = s })
+-- ---- what a report answers
+
+module _ (p : Plan) (s : Session) (side : Side) (n : ℕ) where
+  module _ {r : Bool} (e : r ≡ holds_count p.count p.places.now p.sums.now) where
+    pub report_short : r ≡ false → report_in p.count p.places.now p.sums.now s side n ≡ refused 8
     unfolding report_in
-    report_short {r} e h = rw (← e, not-true r h) (record { reply = refl; session = refl })
+    report_short h = rw (← e, h)
 
-    pub report_finished : Held count places sums → {r : Bool} → r ≡ finished_by count s → r ≡ true
-        → Reports (report_in count places sums s side n) s (record { reply = Finished; session = s })
+    module _ (h : r ≡ true) {q : Bool} (f : q ≡ finished_by p.count s) where
+      pub report_finished : q ≡ true → report_in p.count p.places.now p.sums.now s side n ≡ refused 11
+      unfolding report_in report_on
+      report_finished i = rw (← e, h, held_length p (count_held p e h), ← f, i)
+
+      pub report_open : q ≡ false → Open p s.passed
+      report_open i = record { held = count_held p e h; before_end = leb-false _ _ (sym f ∙ i) }
+
+  -- where a step is open
+  module _ (o : Open p s.passed) {r : Bool} (e : r ≡ fits (steps_of p) s side n) where
+    pub report_unfit : r ≡ false → report_in p.count p.places.now p.sums.now s side n ≡ refused 10
     unfolding report_in report_on
-    report_finished h e f =
-        rw (held_count count places sums h, held_length count places sums h, ← e, f) (record { reply = refl; session = refl })
+    report_unfit h = rw (held_count p o.held, held_length p o.held, lt-leb p.count s.passed o.before_end, ← e, h)
 
-  -- a report on the open step, by the entry of its side
-  module _ (o : Open count places sums s.passed) (side : Side) (n : ℕ) {a : ℕ} (e : a ≡ get_or (entries_of side places sums) s.passed 0) where
-    report_open : report_in count places sums s side n
-        ≡ test 10 (fits (plan_in count places sums) s side n) (ok (settled (plan_in count places sums) (mark s side)))
+    report_taken : r ≡ true
+        → report_in p.count p.places.now p.sums.now s side n ≡ ok (settle (steps_of p) (p.count - (mark s side).passed) (mark s side))
     unfolding report_in report_on
-    report_open =
-        rw (held_count count places sums o.held, held_length count places sums o.held, lt-leb count s.passed o.before_end)
+    report_taken h =
+        rw (held_count p o.held, held_length p o.held, lt-leb p.count s.passed o.before_end, ← e, h) refl
 
-    pub report_other : (a ≡ n → ⊥) → Reports (report_in count places sums s side n) s (record { reply = Unfit; session = s })
-    unfolding fits
-    report_other h =
-        rw (report_open, ← side_entry count places sums s o side, ← e, ne_eqb n a (λ q. h (sym q))) (record { reply = refl; session = refl })
+    -- the step stays open, or is passed
+    module _ (h : r ≡ true) {m : Session} (f : m ≡ mark s side) {q : Bool} (g : q ≡ done (steps_of p) m) where
+      marked_done : done (steps_of p) (mark s side) ≡ q
+      marked_done = rw (← f) (sym g)
 
-    -- and by whether it is outstanding
-    module _ {r : Bool} (g : r ≡ outstanding (entries_of side places sums) s.passed a (marked s side)) where
-      awaited_is : awaited (plan_in count places sums) s side ≡ r
-      awaited_is = sym (g ∙ side_awaited count places sums s o side e)
+      pub report_marked : q ≡ false → report_in p.count p.places.now p.sums.now s side n ≡ ok m
+      report_marked i = report_taken h ∙ ap ok (settle_stays (steps_of p) (mark s side) _ (marked_done ∙ i) ∙ sym f)
 
-      pub report_idle : not r ≡ true → Reports (report_in count places sums s side n) s (record { reply = Unfit; session = s })
-      unfolding fits
-      report_idle h = rw (report_open, awaited_is, not-true r h, and-false) (record { reply = refl; session = refl })
+      pub report_passed : q ≡ true → {t : Session} → t ≡ settle (steps_of p) (p.count - (m.passed + 1)) (at_step (m.passed + 1))
+          → report_in p.count p.places.now p.sums.now s side n ≡ ok t
+      report_passed i l =
+          let b : (mark s side).passed < p.count = rw (mark_passed s side) o.before_end in
+          report_taken h ∙ ap ok (sym (settle_next (steps_of p) (mark s side) p.count _ refl b (marked_done ∙ i)) ∙ sym (rw f at l))
 
-      -- it is taken, and the other side decides
-      module _ (f : a ≡ n) (h : not r ≡ false) {b : ℕ} (i : b ≡ get_or (entries_of (other side) places sums) s.passed 0)
-          {q : Bool} (j : q ≡ outstanding (entries_of (other side) places sums) s.passed b (marked s (other side))) where
-        taken : {next : Session} → next ≡ settle (plan_in count places sums) (count - (mark s side).passed) (mark s side)
-            → Reports (report_in count places sums s side n) s (record { reply = Taken; session = next })
-        unfolding fits
-        taken k =
-            rw (
-              report_open,
-              ← side_entry count places sums s o side,
-              ← e,
-              eq-eqb n a (sym f),
-              awaited_is,
-              not-false r h,
-              held_length count places sums o.held,
-              k,
-            )
-            (record { reply = refl; session = refl })
-
-        marked_done : done (plan_in count places sums) (mark s side) ≡ not q
-        marked_done = mark_done (plan_in count places sums) s side ∙ ap not (sym (j ∙ side_awaited count places sums s o (other side) i))
-
-        pub report_marked : q ≡ true → Reports (report_in count places sums s side n) s (record { reply = Taken; session = mark s side })
-        report_marked k = taken (sym (settle_stays (plan_in count places sums) (mark s side) _ (marked_done ∙ ap not k)))
-
-        pub report_passed : q ≡ false → {next : Session}
-            → next ≡ settle (plan_in count places sums) (count - (s.passed + 1)) (at_step (s.passed + 1))
-            → Reports (report_in count places sums s side n) s (record { reply = Taken; session = next })
-        report_passed k l =
-            let p : (mark s side).passed ≡ s.passed = mark_passed s side in
-            let m : s.passed < count = o.before_end in
-            taken
-            (l ∙ ap (λ (j : ℕ). settle (plan_in count places sums) (count - (j + 1)) (at_step (j + 1))) (sym p)
-            ∙ settle_next (plan_in count places sums) (mark s side) count (omega arith) (marked_done ∙ ap not k))
+      pub marked_open : Open p m.passed
+      marked_open = rw (f, mark_passed s side) o

@@ -1,8 +1,6 @@
 -- the plan in two areas, state by state
 pub mod PlanLaws
--- a step read from the areas
-pub mod StepLaws
--- what the code's tests say of a session and of a report
+-- what the code's tests say of a step and of a session
 pub mod CodeLaws
 -- what opening answers
 pub mod OpenLaws

@@ -1,36 +1,38 @@
 -- What the private functions of this crate ask and give.
-use Rattle.std.specs.Prelude.{◌≡◌, Bool, not, ◌&&◌, List, ℕ, zero, suc, ◌≤◌, ◌<◌, eqb, length, get_or}
+use Rattle.std.specs.Prelude.{◌≡◌, List, ℕ, ◌≤◌, ◌<◌, length, get_or}
 use Rattle.area.specs.Entries.{entries}
-use Rattle.exchange.specs.Deal.{start, after}
+use Rattle.exchange.specs.Deal.{State, start, after}
 use Rattle.exchange.specs.PlanIn.{plan_in}
+use Rattle.session.specs.declared.Plan.{Plan}
+use Rattle.session.specs.declared.Step.{Step}
 use Rattle.session.specs.declared.Side.{Side}
 use Rattle.session.specs.declared.Side.TheVariants.{Delivery, Payment}
 
--- areas with as many entries as the count says
-pub record Held (count : ℕ) (places sums : List ℕ) : Type 0 where
-  pub places_hold : count ≤ length (entries 2 places)
-  pub sums_hold : count ≤ length (entries 4 sums)
-
--- a step is open after k steps
-pub record Open (count : ℕ) (places sums : List ℕ) (k : ℕ) : Type 0 where
-  pub held : Held count places sums
-  pub before_end : k < count
-
--- after k steps the plan stands at this place and this sum
-pub record StandsAt (count : ℕ) (places sums : List ℕ) (k place sum : ℕ) : Type 0 where
-  pub held : Held count places sums
-  pub state_is : after start (plan_in count places sums) k ≡ record { place = place; paid = sum }
+-- the steps of a plan
+abbrev pub steps_of : Plan → List State
+steps_of p = plan_in p.count p.places.now p.sums.now
 
 -- the entries of a side
-abbrev pub entries_of : Side → List ℕ → List ℕ → List ℕ
-entries_of Delivery places sums = entries 2 places
-entries_of Payment places sums = entries 4 sums
+abbrev pub entries_of : Side → Plan → List ℕ
+entries_of Delivery p = entries 2 p.places.now
+entries_of Payment p = entries 4 p.sums.now
 
--- the entry of the step before the one after k steps: 0 at the start
-abbrev pub entry_before : List ℕ → ℕ → ℕ
-entry_before es zero = 0
-entry_before es (suc k) = get_or es k 0
+-- areas with as many entries as the count says
+pub record Held (p : Plan) : Type 0 where
+  pub places_hold : p.count ≤ length (entries 2 p.places.now)
+  pub sums_hold : p.count ≤ length (entries 4 p.sums.now)
 
--- whether a side with this entry after k steps is still to be reported
-unfoldable pub outstanding : List ℕ → ℕ → ℕ → Bool → Bool
-outstanding es k entry marked = not (eqb entry (entry_before es k)) && not marked
+-- a step is open after k steps. It is asked for in clauses and is no type of its own: the session that counts k moves on, so that such a value
+-- would be made anew for every step that is looked at
+pub record Open (p : Plan) (k : ℕ) : Type 0 where
+  pub held : Held p
+  pub before_end : k < p.count
+
+-- the entries of the step after k steps
+abbrev pub step_at : Plan → ℕ → Step
+step_at p k = record { place = get_or (entries 2 p.places.now) k 0; sum = get_or (entries 4 p.sums.now) k 0 }
+
+-- after k steps the plan stands at these entries
+pub record StandsAt (p : Plan) (k : ℕ) (here : Step) : Type 0 where
+  pub held : Held p
+  pub state_is : after start (steps_of p) k ≡ record { place = here.place; paid = here.sum }

@@ -1,9 +1,11 @@
 -- What opening a session promises.
-use Rattle.std.specs.Prelude.{◌≡◌, List, ℕ}
+use Rattle.std.specs.Prelude.{◌≡◌, List, ℕ, Result, Ok, Err}
 use Rattle.contract.specs.Res.{Res, refused, ok}
 use Rattle.contract.specs.Contract.{Contract}
 use Rattle.exchange.specs.Deal.{State}
+use Rattle.planning.specs.Answer.{checked_of}
 use Rattle.planning.specs.Check.{Checks}
+use Rattle.planning.specs.declared.CheckError.{CheckError}
 use Rattle.session.specs.Session.{at_step, opened}
 use Rattle.session.specs.declared.Session.{Session}
 
@@ -17,3 +19,13 @@ session_by (ok u) xs = opened xs
 pub record Opens (ahead : Res Contract) (order : List ℕ) (xs : List State) (answer : Res (Unit {0})) (s : Session) : Type 0 where
   pub checks : Checks ahead answer order xs
   pub session : s ≡ session_by answer xs
+
+-- the answer of opening, as the check gives it
+abbrev pub answer_by : Result Session CheckError → Res (Unit {0})
+answer_by (Ok s) = ok tt
+answer_by (Err e) = checked_of (Err e)
+
+-- the session that is opened; on a refusal there is none, and nothing is passed
+abbrev pub session_of : Result Session CheckError → Session
+session_of (Ok s) = s
+session_of (Err e) = at_step 0

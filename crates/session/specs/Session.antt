@@ -1,5 +1,5 @@
 -- A session, as the paper writes it: which report fits, which steps are passed over, and what a report hands back.
-use Rattle.std.specs.Prelude.{◌≡◌, Bool, true, false, cond, not, ◌&&◌, List, ℕ, zero, suc, ◌-◌, leb, eqb, length}
+use Rattle.std.specs.Prelude.{◌≡◌, Bool, true, false, cond, not, ◌&&◌, List, ℕ, zero, suc, ◌-◌, leb, eqb, length, Result, Ok, Err}
 use Rattle.contract.specs.Res.{Res, refused, ok, bind, test}
 use Rattle.exchange.specs.Deal.{State, start, after}
 use Rattle.exchange.specs.PlanIn.{plan_in}
@@ -7,8 +7,8 @@ use Rattle.planning.specs.Check.{holds_count}
 use Rattle.session.specs.declared.Session.{Session}
 use Rattle.session.specs.declared.Side.{Side}
 use Rattle.session.specs.declared.Side.TheVariants.{Delivery, Payment}
-use Rattle.session.specs.declared.Reply.{Reply}
-use Rattle.session.specs.declared.Reply.TheVariants.{Taken, Short, Finished, Unfit}
+use Rattle.session.specs.declared.ReportError.{ReportError}
+use Rattle.session.specs.declared.ReportError.TheVariants.{Short, Finished, Unfit}
 use Rattle.session.specs.declared.Reported.{Reported}
 
 -- ---- a plan and a session
@@ -86,12 +86,12 @@ abbrev pub session_after : Session → Res Session → Session
 session_after s (refused e) = s
 session_after s (ok next) = next
 
--- the paper's numbers of the replies; taken is a success
-abbrev pub replied : Reply → Res (Unit {0})
-replied Taken = ok tt
-replied Short = refused 8
-replied Finished = refused 11
-replied Unfit = refused 10
+-- the paper's numbers of the replies
+abbrev pub replied : Result (Unit {0}) ReportError → Res (Unit {0})
+replied (Ok u) = ok tt
+replied (Err Short) = refused 8
+replied (Err Finished) = refused 11
+replied (Err Unfit) = refused 10
 
 -- the reply of a report: its number, or success
 abbrev pub reply_to : Res Session → Res (Unit {0})

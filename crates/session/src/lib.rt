@@ -1,18 +1,14 @@
 // A session: how far a plan is carried out. Each report takes the session and hands back the next.
 #![tactic(auto)]
 
-ghost use Rattle.std.specs.Prelude.{◌≡◌, ◌-◌};
+ghost use Rattle.std.specs.Prelude.{◌≡◌, ◌-◌, ◌≤◌, ◌<◌, length, get_or, Err};
 ghost use Rattle.exchange.specs.PlanIn.{plan_in};
 ghost use Rattle.planning.specs.Check.{holds_count, ahead_of_check};
-ghost use Rattle.session.specs.Session.{finished_by, at_step, settle, report_in, Reports};
-ghost use Rattle.planning.specs.Answer.{checked_of};
-ghost use Rattle.session.specs.Opening.{Opens};
-ghost use Rattle.session.specs.Code.{Open, StandsAt};
-ghost use Rattle.session.specs.declared.Side.{Side};
+ghost use Rattle.session.specs.Code.{Open, StandsAt, entries_of, step_at, steps_of};
+ghost use Rattle.session.specs.Opening.{answer_by, session_of, Opens};
+ghost use Rattle.session.specs.Session.{awaited, done, finished_by, fits, at_step, mark, marked, moves, report_in, Reports, settle};
 
-mod step;
-
-use planning::Checked;
+use planning::CheckError;
 
 // The number of steps passed, and the marks of the open step: what of it is delivered and what is paid.
 #[derive(Clone, Copy)]
@@ -29,10 +25,24 @@ pub enum Side {
     Payment,
 }
 
-// The reply to a report.
+// A plan that is brought: how many steps it has, and their places and sums in two byte areas.
 #[derive(Clone, Copy)]
-pub enum Reply {
-    Taken,
+pub struct Plan<'a> {
+    pub count: usize,
+    pub places: &'a [u8],
+    pub sums: &'a [u8],
+}
+
+// The entries of a step, or what they would be at the start.
+#[derive(Clone, Copy, PartialEq, Eq)]
+struct Step {
+    place: u32,
+    sum: u32,
+}
+
+// Why a report is refused.
+#[derive(Clone, Copy)]
+pub enum ReportError {
     // An area has fewer entries than the count says.
     Short,
     Finished,
@@ -40,37 +50,70 @@ pub enum Reply {
     Unfit,
 }
 
-// A reply, and the session after the report.
+// A reply, and the session after the report. Stays as it is, by a rule of the project: each report takes the session and hands back the next.
 #[derive(Clone, Copy)]
 pub struct Reported {
-    pub reply: Reply,
+    pub reply: Result<(), ReportError>,
     pub session: Session,
 }
 
-// The answer of the check, and the session that it opens.
-#[derive(Clone, Copy)]
-pub struct Opened {
-    pub reply: Checked,
-    pub session: Session,
-}
-
-// Whether both areas have as many entries as the count says: the one with fewer decides.
-pub fn holds(count: usize, places: &[u8], sums: &[u8]) -> bool
-    ensures { result ≡ holds_count count places.now sums.now }
-{
-    let in_places = area::count_u16(places);
-    let in_sums = area::count_u32(sums);
-    if in_places < in_sums {
-        return count <= in_places;
+impl Plan<'_> {
+    // Whether both areas have as many entries as the count says.
+    pub fn holds(&self) -> bool
+        ensures { result ≡ holds_count self.now.count self.now.places.now self.now.sums.now }
+    {
+        let in_places = area::count::<u16>(self.places);
+        let in_sums = area::count::<u32>(self.sums);
+        self.count <= in_places.min(in_sums)
     }
-    count <= in_sums
-}
 
-// A reply beside a session.
-fn answer(reply: Reply, session: Session) -> Reported
-    ensures { result ≡ record { reply = reply; session = session } }
-{
-    Reported { reply, session }
+    // The entry of a side in the step after k steps.
+    fn entry(&self, k: usize, side: Side) -> u32
+        requires { k < length (entries_of side self.now) }
+        ensures { result ≡ get_or (entries_of side self.now) k 0 }
+    {
+        match side {
+            Side::Delivery => u32::from(area::known::<u16>(self.places, k)),
+            Side::Payment => area::known(self.sums, k),
+        }
+    }
+
+    // Whether a side moves in the step after k steps: its entry differs from the one before, which is 0 at the start.
+    fn moves(&self, k: usize, side: Side) -> bool
+        requires { Open self.now k }
+        ensures { result ≡ moves (steps_of self.now) k side }
+    {
+        let entry = self.entry(k, side);
+        if k == 0 {
+            return entry != 0;
+        }
+        entry != self.entry(k - 1, side)
+    }
+
+    // The entries of the step after k steps.
+    fn step(&self, k: usize) -> Step
+        requires { Open self.now k }
+        ensures { result ≡ step_at self.now k }
+    {
+        Step {
+            place: self.entry(k, Side::Delivery),
+            sum: self.entry(k, Side::Payment),
+        }
+    }
+
+    // Passes over the steps from k on that stay where the plan stands.
+    fn pass_over(&self, k: usize, here: Step) -> Session
+        requires within { k ≤ self.now.count }
+        requires here { StandsAt self.now k here }
+        ensures { result ≡ settle (steps_of self.now) (self.now.count - k) (at_step k) }
+    {
+        for i in k..self.count {
+            if self.step(i) != here {
+                return at_step(i);
+            }
+        }
+        at_step(self.count)
+    }
 }
 
 // The session with these steps passed and no marks.
@@ -84,24 +127,6 @@ fn at_step(passed: usize) -> Session
     }
 }
 
-// Passes over the steps from k on that stay at the place and the sum of the step before.
-fn pass_over(count: usize, places: &[u8], sums: &[u8], k: usize, place: u32, sum: u32) -> Session
-    requires { StandsAt count places.now sums.now k place sum }
-    ensures { result ≡ settle (plan_in count places.now sums.now) (count - k) (at_step k) }
-{
-    let mut passed = k;
-    while passed < count {
-        if area::known_u16(places, passed) != place {
-            return at_step(passed);
-        }
-        if area::known_u32(sums, passed) != sum {
-            return at_step(passed);
-        }
-        passed += 1;
-    }
-    at_step(passed)
-}
-
 impl Session {
     // Whether every step of a plan with this count is passed.
     pub fn finished(self, count: usize) -> bool
@@ -110,92 +135,103 @@ impl Session {
         count <= self.passed
     }
 
-    // Reports a place delivered or a total paid, by the plan in two byte areas. On a refusal the session is the same.
-    pub fn report(
-        mut self,
-        count: usize,
-        places: &[u8],
-        sums: &[u8],
-        side: Side,
-        number: u32,
-    ) -> Reported
-        ensures { Reports (report_in count places.now sums.now self side number) self result }
+    // Reports a place delivered or a total paid, by a plan. On a refusal the session is the same.
+    pub fn report(mut self, plan: &Plan<'_>, side: Side, number: u32) -> Reported
+        ensures { Reports (report_in plan.now.count plan.now.places.now plan.now.sums.now self side number) self result }
     {
-        if !holds(count, places, sums) {
-            return answer(Reply::Short, self);
+        if !plan.holds() {
+            return self.refused(ReportError::Short);
         }
-        if self.finished(count) {
-            return answer(Reply::Finished, self);
+        if self.finished(plan.count) {
+            return self.refused(ReportError::Finished);
         }
+        // Each side has a call, and so code, of its own: no test of the side is left in it.
         match side {
-            Side::Delivery => self.deliver(count, places, sums, number),
-            Side::Payment => self.pay(count, places, sums, number),
+            Side::Delivery => self.take(plan, Side::Delivery, number),
+            Side::Payment => self.take(plan, Side::Payment, number),
         }
     }
 
-    // Reports a place delivered where a step is open. The other side's entries are read only if the report fits.
-    fn deliver(mut self, count: usize, places: &[u8], sums: &[u8], number: u32) -> Reported
-        requires { Open count places.now sums.now self.passed }
-        ensures { Reports (report_in count places.now sums.now self Side.Delivery number) self result }
+    // Reports on the open step.
+    #[inline(always)]
+    fn take(mut self, plan: &Plan<'_>, side: Side, number: u32) -> Reported
+        requires { Open plan.now self.passed }
+        ensures { Reports (report_in plan.now.count plan.now.places.now plan.now.sums.now self side number) self result }
     {
-        let k = self.passed;
-        let place = area::known_u16(places, k);
-        if place != number {
-            return answer(Reply::Unfit, self);
+        if !self.fits(plan, side, number) {
+            return self.refused(ReportError::Unfit);
         }
-        if !step::delivery_outstanding(places, k, place, self.delivered) {
-            return answer(Reply::Unfit, self);
+        self = self.mark(side);
+        if self.done(plan) {
+            self = plan.pass_over(self.passed + 1, plan.step(self.passed));
         }
-        let sum = area::known_u32(sums, k);
-        if step::payment_outstanding(sums, k, sum, self.paid) {
-            self.delivered = true;
-            return answer(Reply::Taken, self);
+        Reported {
+            reply: Ok(()),
+            session: self,
         }
-        let next = pass_over(count, places, sums, k + 1, place, sum);
-        answer(Reply::Taken, next)
     }
 
-    // Reports a total paid where a step is open, as `deliver` does a place.
-    fn pay(mut self, count: usize, places: &[u8], sums: &[u8], number: u32) -> Reported
-        requires { Open count places.now sums.now self.passed }
-        ensures { Reports (report_in count places.now sums.now self Side.Payment number) self result }
+    // A refusal, and the same session.
+    fn refused(self, error: ReportError) -> Reported
+        ensures { result ≡ record { reply = Err error; session = self } }
     {
-        let k = self.passed;
-        let sum = area::known_u32(sums, k);
-        if sum != number {
-            return answer(Reply::Unfit, self);
+        Reported {
+            reply: Err(error),
+            session: self,
         }
-        if !step::payment_outstanding(sums, k, sum, self.paid) {
-            return answer(Reply::Unfit, self);
+    }
+
+    // Whether a report is one of the open step: it names the entry of its side, which is still to be reported.
+    #[tactic(auto, unfolding(crate::specs::Session::fits))]
+    fn fits(self, plan: &Plan<'_>, side: Side, number: u32) -> bool
+        requires { Open plan.now self.passed }
+        ensures { result ≡ fits (steps_of plan.now) self side number }
+    {
+        plan.entry(self.passed, side) == number && self.awaits(plan, side)
+    }
+
+    // Whether a side of the open step is still to be reported: it isn't marked, and it moves.
+    #[tactic(auto, unfolding(crate::specs::Session::awaited))]
+    fn awaits(self, plan: &Plan<'_>, side: Side) -> bool
+        requires { Open plan.now self.passed }
+        ensures { result ≡ awaited (steps_of plan.now) self side }
+    {
+        !self.marked(side) && plan.moves(self.passed, side)
+    }
+
+    // Whether the moves of the open step are all reported.
+    #[tactic(auto, unfolding(crate::specs::Session::done))]
+    fn done(self, plan: &Plan<'_>) -> bool
+        requires { Open plan.now self.passed }
+        ensures { result ≡ done (steps_of plan.now) self }
+    {
+        !self.awaits(plan, Side::Delivery) && !self.awaits(plan, Side::Payment)
+    }
+
+    fn marked(self, side: Side) -> bool
+        ensures { result ≡ marked self side }
+    {
+        match side {
+            Side::Delivery => self.delivered,
+            Side::Payment => self.paid,
         }
-        let place = area::known_u16(places, k);
-        if step::delivery_outstanding(places, k, place, self.delivered) {
-            self.paid = true;
-            return answer(Reply::Taken, self);
+    }
+
+    fn mark(mut self, side: Side) -> Session
+        ensures { result ≡ mark self side }
+    {
+        match side {
+            Side::Delivery => self.delivered = true,
+            Side::Payment => self.paid = true,
         }
-        let next = pass_over(count, places, sums, k + 1, place, sum);
-        answer(Reply::Taken, next)
+        self
     }
 }
 
-// Opens a session on a plan that is brought. On a refusal nothing is passed and nothing is marked.
-pub fn open(bytes: &[u8], count: usize, places: &[u8], sums: &[u8], order: &[u8]) -> Opened
-    ensures { Opens (ahead_of_check bytes.now count places.now sums.now order.now) order.now (plan_in count places.now sums.now) (checked_of result.reply) result.session }
+// Opens a session on a plan that is brought.
+pub fn open(bytes: &[u8], plan: &Plan<'_>, order: &[u8]) -> Result<Session, CheckError>
+    ensures { Opens (ahead_of_check bytes.now plan.now.count plan.now.places.now plan.now.sums.now order.now) order.now (plan_in plan.now.count plan.now.places.now plan.now.sums.now) (answer_by result) (session_of result) }
 {
-    let reply = planner::check(bytes, count, places, sums, order);
-    let session = at_step(0);
-    match reply {
-        Checked::Refused(e) => Opened {
-            reply: Checked::Refused(e),
-            session,
-        },
-        Checked::Unsafe => Opened {
-            reply: Checked::Unsafe,
-            session,
-        },
-        Checked::Accepted => Opened {
-            reply: Checked::Accepted,
-            session: pass_over(count, places, sums, 0, 0, 0),
-        },
-    }
+    planner::check(bytes, plan.count, plan.places, plan.sums, order)?;
+    Ok(plan.pass_over(0, Step { place: 0, sum: 0 }))
 }

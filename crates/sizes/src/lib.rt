@@ -1,27 +1,17 @@
 // Sizes of a contract's parts.
 #![tactic(auto)]
 
-ghost use Rattle.std.specs.Prelude.{◌≡◌, ◌<◌};
+ghost use Rattle.std.specs.Prelude.{◌≡◌, ◌<◌, ◌≤◌, ◌↔◌, length, IsSome, IfSome};
 ghost use Rattle.sizes.specs.Units.{units_few};
 
-fn wide(u: u16) -> usize
-    ensures { (result ≡ u) × (result < 65536) }
-{
-    u as usize
-}
-
-// All units of at most eight items together, and 0 for more items.
-pub fn sum_units(units: &[u16]) -> usize
-    ensures { (result ≡ units_few units.now) × (result < 524288) }
+// All units together; None for more than eight items.
+pub fn sum_units(units: &[u16]) -> Option<usize>
+    ensures variant { IsSome result ↔ (length units.now ≤ 8) }
+    ensures value { IfSome result (λ n. n ≡ units_few units.now) }
+    ensures bound { IfSome result (λ n. n < 524288) }
 {
     if 8 < units.len() {
-        return 0;
+        return None;
     }
-    let mut n = 0;
-    let mut i = 0;
-    while i < units.len() {
-        n += wide(units[i]);
-        i += 1;
-    }
-    n
+    Some(units.iter().map(|&u| usize::from(u)).sum())
 }

@@ -1,11 +1,10 @@
--- Bytes, fields and lines put one after the other. Assumes nothing.
+-- Fields and lines put one after the other. Assumes nothing.
 use mathlib.Core.Path.{◌≡◌, refl, sym, ap, ◌∙◌}
 use mathlib.Core.List.{List, [], ◌∷◌, ◌++◌}
 use Prim.Native.Nat.{ℕ, suc, ◌+◌, ◌-◌, ◌*◌, ◌^◌, ◌≤◌, ◌<◌, zero-le}
 use native.Mathlib.Numerals.{add-one}
 use native.Mathlib.Omega.{arith}
-use lib.ListN.{length, get_or, drop, set, length-append, drop_of_length-le}
-use lib.Seq.{drop-cons}
+use lib.ListN.{length, drop, set, length-append, drop_of_length-le}
 use Rattle.io.specs.Digits.{last_digits, IsDigitCount}
 use Rattle.area.specs.Puts.{Puts}
 use Rattle.area.proofs.PutLaws.{puts_then, puts_length, Left, left_all, left_turn, left_done}
@@ -15,14 +14,6 @@ use Rattle.exchange.proofs.PlanInLaws.{entry_in, plan_from, plan_length}
 use Rattle.text.specs.Text.{decimal, field, line, lines}
 use Rattle.text.specs.Code.{Room}
 use Rattle.text.proofs.Decimal.{spelt_is, spelt_short, few_digits}
-
--- ---- bytes
-
--- one more byte is copied
-pub copy_turn : (bytes s t : List ℕ) (i k : ℕ) → k < length bytes → Left bytes s i (drop k bytes) t (i + k)
-    → Left bytes s i (drop (k + 1) bytes) (set t (i + k) (get_or bytes k 0)) (i + (k + 1))
-copy_turn bytes s t i k h l =
-    left_turn (get_or bytes k 0 ∷ []) (drop (k + 1) bytes) l (rw add-one (drop-cons bytes k 0 h)) record { stores = refl; next = omega arith }
 
 -- ---- fields
 

@@ -1,6 +1,6 @@
 -- decimal numbers
 pub mod Decimal
--- bytes and fields put one after the other
+-- fields and lines put one after the other
 pub mod Fields
 -- the requirements' own output
 pub mod CaseA

@@ -1,4 +1,4 @@
-// The text that answers a record, put into an area.
+// The text that answers a record, put into an area. A plan stays a count and two areas, as the planner fills them for C.
 #![tactic(auto)]
 
 ghost use Rattle.std.specs.Prelude.{[], ◌≤◌, length};
@@ -24,7 +24,7 @@ pub fn put_refusal(number: u32, out: &mut [u8]) -> usize
 }
 
 // Puts the text of a plan, the first entries of two byte areas, at the front of an area, and answers its length. The first
-// line has at most 12 bytes.
+// line has at most 12 bytes. The count's cast stays: usize has no From to u32, and the contract says that it fits.
 pub fn put_plan(count: usize, places: &[u8], sums: &[u8], out: &mut [u8]) -> usize
     requires { Room count places.now sums.now out.old 12 }
     ensures puts { Puts (text (ok count) (plan_in count places.now sums.now)) out.old 0 result out.new }

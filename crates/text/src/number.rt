@@ -8,12 +8,9 @@ pub(crate) fn put_bytes(bytes: &[u8], out: &mut [u8], at: usize) -> usize
     requires { at + length bytes.now ≤ length out.old }
     ensures { Puts bytes.now out.old at result out.new }
 {
-    let mut i = 0;
-    while i < bytes.len() {
-        out[at + i] = bytes[i];
-        i += 1;
-    }
-    at + i
+    let end = at + bytes.len();
+    out[at..end].copy_from_slice(bytes);
+    end
 }
 
 // Puts a number and the byte after it into an area, and answers where they end.
@@ -23,7 +20,7 @@ pub(crate) fn put_number(n: u32, after: u8, out: &mut [u8], at: usize) -> usize
     ensures value { result ≡ at + length (decimal n) + 1 }
 {
     let mut digits = [0u8; 20];
-    let count = io::decimal(n as u64, &mut digits);
+    let count = io::decimal(u64::from(n), &mut digits);
     let last = put_bytes(&digits[..count], out, at);
     out[last] = after;
     last + 1

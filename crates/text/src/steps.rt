@@ -13,11 +13,11 @@ fn put_step(number: u32, place: u16, paid: u32, out: &mut [u8], at: usize) -> us
     ensures { Puts (line number (record { place = place; paid = paid })) out.old at result out.new }
 {
     let first = put_number(number, b' ', out, at);
-    let second = put_number(place as u32, b' ', out, first);
+    let second = put_number(u32::from(place), b' ', out, first);
     put_number(paid, b'\n', out, second)
 }
 
-// Puts the lines of all steps into an area, and answers where they end.
+// Puts the lines of all steps into an area, and answers where they end. The step number's cast stays, as the count's in `put_plan`.
 pub(crate) fn put_steps(
     count: usize,
     places: &[u8],
@@ -30,12 +30,10 @@ pub(crate) fn put_steps(
     ensures upper_bound { result ≤ length out.new }
 {
     let mut end = at;
-    let mut k = 0;
-    while k < count {
-        let place = area::entry_u16(places, k);
-        let paid = area::entry_u32(sums, k);
-        k += 1;
-        end = put_step(k as u32, place, paid, out, end);
+    for k in 0..count {
+        let place = area::entry::<u16>(places, k);
+        let paid = area::entry::<u32>(sums, k);
+        end = put_step((k + 1) as u32, place, paid, out, end);
     }
     end
 }

@@ -1,7 +1,5 @@
 -- what planning answers, as a number
 pub mod NumberLaws
--- numbers of eight bytes by halves
-pub mod WordLaws
 -- sessions in a byte area
 pub mod SessionLaws
 -- what the entries on sessions answer and leave

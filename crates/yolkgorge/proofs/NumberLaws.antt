@@ -1,30 +1,25 @@
 -- Answers and sides as numbers. Assumes nothing.
-use mathlib.Core.Path.{◌≡◌, refl, sym, ap, ◌∙◌}
+use mathlib.Core.Path.{◌≡◌, refl, ap, ◌∙◌}
 use mathlib.Core.List.{List, map}
-use Prim.Native.Nat.{ℕ, zero, suc, ◌+◌, ◌-◌, ◌/◌, ◌^◌, ◌≤◌, ◌<◌}
+use Prim.Native.Nat.{ℕ, ◌+◌, ◌-◌, ◌/◌, ◌^◌, ◌≤◌, ◌<◌}
 use native.Mathlib.Omega.{arith}
 use lib.ListN.{length, length-map, length-append, replicate}
-use lib.IntN.{pos, neg_ℤ, sub_ℕ, +ℤ_idl}
+use Rattle.std.specs.Prelude.{Result, Ok, Err}
 use Rattle.area.specs.Entries.{entries}
 use Rattle.area.specs.Filled.{Filled}
 use Rattle.area.proofs.Laws.{entries_length}
 use Rattle.contract.specs.Res.{Res, refused, ok}
-use Rattle.contract.specs.Contract.{Contract, number_of}
-use Rattle.contract.specs.declared.Refusal.{Refusal}
-use Rattle.contract.specs.declared.Refusal.TheVariants.{Truncated, Map, Value, Limit, Range, Falling, Trailing, Short}
-use Rattle.exchange.proofs.Int.{pos_sub}
+use Rattle.contract.specs.Contract.{Contract}
 use Rattle.exchange.specs.Deal.{State}
 use Rattle.exchange.specs.PlanIn.{plan_in}
+use Rattle.exchange.specs.declared.Bounds.{Bounds}
 use Rattle.exchange.specs.declared.Objective.{Objective}
 use Rattle.planning.specs.Areas.{Areas}
 use Rattle.planning.specs.Promise.{PlansFor, SuccessFor}
 use Rattle.planning.proofs.Outcome.{claimed_steps}
-use Rattle.session.specs.declared.Side.TheVariants.{Payment}
-use Rattle.yolkgorge.specs.Number.{code_of, CountFits, or_short, side_of}
-
--- nothing less a number
-pub none_less : (n : ℕ) → sub_ℕ 0 n ≡ neg_ℤ (pos n)
-none_less n = sym (pos_sub 0 n) ∙ +ℤ_idl (neg_ℤ (pos n))
+use Rattle.planning.specs.Answer.{bounded_of}
+use Rattle.planning.specs.declared.BoundsError.{BoundsError}
+use Rattle.yolkgorge.specs.Number.{CountFits, numbered, bounds_number}
 
 -- a refusal has no count
 refused_fits : (answer : Res ℕ) {e : ℕ} → answer ≡ refused e → CountFits answer
@@ -56,18 +51,8 @@ count_fits aim (refused e) answer before after p h = refused_fits answer p.0
 count_fits aim (ok k) (refused e) before after p h = tt
 count_fits aim (ok k) (ok n) before after p h = success_fits aim k n before after p h
 
--- the refusals of a record and of its areas stand where another area is too short
-pub short_stands : (A : Type 0) (e : Refusal) → number_of e ≡ code_of {A = A} (or_short (refused (number_of e)))
-short_stands A Truncated = refl
-short_stands A Map = refl
-short_stands A Value = refl
-short_stands A Limit = refl
-short_stands A Range = refl
-short_stands A Falling = refl
-short_stands A Trailing = refl
-short_stands A Short = refl
-
--- a number above 0 names a payment
-pub payment_named : (n : ℕ) → (n ≡ 0 → ⊥) → Payment ≡ side_of n
-payment_named zero h = absurd (h refl)
-payment_named (suc n) h = refl
+-- bounds by the number of their error
+pub bounds_numbered : (r : Result Bounds BoundsError) → bounded_of r ≡ numbered bounds_number r
+bounds_numbered (Ok b) = refl
+bounds_numbered (Err (BoundsError.Refused e)) = refl
+bounds_numbered (Err BoundsError.WrongOrder) = refl

@@ -1,5 +1,5 @@
 -- A session in a byte area of ten bytes: the steps passed in eight, little-endian, then a byte for each mark, delivered and paid.
-use Rattle.std.specs.Prelude.{Bool, true, false, not, List, [], ◌∷◌, ◌++◌, ℕ, zero, suc, leb, eqb, length, get_or}
+use Rattle.std.specs.Prelude.{Bool, true, false, not, List, [], ◌∷◌, ◌++◌, ℕ, leb, eqb, length, get_or}
 use Rattle.std.proofs.lemmas.List.Edits.{sets}
 use Rattle.area.specs.Entries.{num, digits}
 use Rattle.session.specs.declared.Session.{Session}
@@ -24,8 +24,3 @@ stored_bytes s passed delivered paid = sets s 0 (digits 8 passed ++ delivered �
 -- an area with a session stored in its first ten bytes
 abbrev pub stored_in : List ℕ → Session → List ℕ
 stored_in s t = stored_bytes s t.passed (mark_byte t.delivered) (mark_byte t.paid)
-
--- the area after an entry: on success the session is stored, on a refusal it is as it was
-abbrev pub stored_on : List ℕ → ℕ → Session → List ℕ
-stored_on s zero t = stored_in s t
-stored_on s (suc e) t = s

@@ -14,7 +14,9 @@ ghost use Rattle.yolkgorge.specs.Sessions.{Leaves, OpensNumber, report_from, fin
 mod limits;
 mod numbers;
 mod resting;
-mod words;
+
+use numbers::SHORT;
+use session::Plan;
 
 // Plans the deal of a record: the step count, or minus the number of the refusal. Areas of places with two bytes each, sums with four, order
 // bytes and work.
@@ -28,8 +30,7 @@ pub extern "C" fn yolkgorge_plan(
 ) -> i64
     ensures { PlansNumber (ahead bytes.now (areas places.old sums.old order.old work.old)) result (areas places.old sums.old order.old work.old) (areas places.new sums.new order.new work.new) }
 {
-    let answer = planner::plan(bytes, places, sums, order, work);
-    numbers::steps_or_refusal(answer)
+    numbers::steps_or_refusal(planner::plan(bytes, places, sums, order, work))
 }
 
 // Plans a ladder or unit prices with fewest payments: the step count, or minus the number of the refusal.
@@ -42,8 +43,7 @@ pub extern "C" fn yolkgorge_plan_fewest_payments(
 ) -> i64
     ensures { PlansNumberFor Objective.Payments (ahead_along bytes.now (plan_areas places.old sums.old order.old)) result (plan_areas places.old sums.old order.old) (plan_areas places.new sums.new order.new) }
 {
-    let answer = planner::plan_fewest_payments(bytes, places, sums, order);
-    numbers::steps_or_refusal(answer)
+    numbers::steps_or_refusal(planner::plan_fewest_payments(bytes, places, sums, order))
 }
 
 // Plans a ladder or unit prices with fewest deliveries: the step count, or minus the number of the refusal.
@@ -56,8 +56,7 @@ pub extern "C" fn yolkgorge_plan_fewest_deliveries(
 ) -> i64
     ensures { PlansNumberFor Objective.Deliveries (ahead_along bytes.now (plan_areas places.old sums.old order.old)) result (plan_areas places.old sums.old order.old) (plan_areas places.new sums.new order.new) }
 {
-    let answer = planner::plan_fewest_deliveries(bytes, places, sums, order);
-    numbers::steps_or_refusal(answer)
+    numbers::steps_or_refusal(planner::plan_fewest_deliveries(bytes, places, sums, order))
 }
 
 // Plans a ladder or unit prices with fewest moves: the step count, or minus the number of the refusal.
@@ -70,8 +69,7 @@ pub extern "C" fn yolkgorge_plan_fewest_moves(
 ) -> i64
     ensures { PlansNumberFor Objective.Moves (ahead_along bytes.now (plan_areas places.old sums.old order.old)) result (plan_areas places.old sums.old order.old) (plan_areas places.new sums.new order.new) }
 {
-    let answer = planner::plan_fewest_moves(bytes, places, sums, order);
-    numbers::steps_or_refusal(answer)
+    numbers::steps_or_refusal(planner::plan_fewest_moves(bytes, places, sums, order))
 }
 
 // Checks a plan that is brought: 0 if it is accepted, else the number of the refusal.
@@ -85,8 +83,7 @@ pub extern "C" fn yolkgorge_check(
 ) -> u32
     ensures { ChecksNumber (ahead_of_check bytes.now count places.now sums.now order.now) result order.now (plan_in count places.now sums.now) }
 {
-    let answer = planner::check(bytes, count, places, sums, order);
-    numbers::check_number(answer)
+    numbers::code(planner::check(bytes, count, places, sums, order))
 }
 
 // Opens a session on a plan that is brought: 0 and the session stored, else the number of the refusal.
@@ -101,12 +98,16 @@ pub extern "C" fn yolkgorge_open(
 ) -> u32
     ensures { OpensNumber (ahead_of_check bytes.now count places.now sums.now order.now) order.now (plan_in count places.now sums.now) result state.old state.new }
 {
-    let opened = session::open(bytes, count, places, sums, order);
-    let answer = opened.reply;
+    let plan = Plan {
+        count,
+        places,
+        sums,
+    };
+    let opened = session::open(bytes, &plan, order);
     if state.len() < 10 {
-        return numbers::short_number(answer);
+        return numbers::short_code(opened);
     }
-    resting::keep(state, numbers::check_number(answer), opened.session)
+    resting::keep(state, opened)
 }
 
 // Reports a place delivered (side 0) or a total paid (side 1): 0 and the next session stored, else the number of the refusal.
@@ -122,13 +123,15 @@ pub extern "C" fn yolkgorge_report(
     ensures { Leaves (report_from state.old count places.now sums.now side number) result state.old state.new }
 {
     if state.len() < 10 {
-        return 8;
+        return SHORT;
     }
-    if side < 2 {
-        let named = numbers::side_of(side);
-        return resting::report_side(state, count, places, sums, named, number);
-    }
-    resting::report_nowhere(state, count, places, sums)
+    let plan = Plan {
+        count,
+        places,
+        sums,
+    };
+    let answer = resting::report(state, &plan, side, number);
+    resting::keep(state, answer)
 }
 
 // Whether a session is finished by a plan with this count: 1 or 0, and 8 where the area is too short for a session.
@@ -137,12 +140,9 @@ pub extern "C" fn yolkgorge_finished(state: &[u8], count: usize) -> u32
     ensures { result ≡ finished_in state.now count }
 {
     if state.len() < 10 {
-        return 8;
+        return SHORT;
     }
-    if resting::take(state).finished(count) {
-        return 1;
-    }
-    0
+    u32::from(resting::take(state).finished(count))
 }
 
 // The bounds of a place along the order that the order bytes name: 0 and the lower and the upper bound stored, else the number of the refusal.
@@ -151,7 +151,7 @@ pub extern "C" fn yolkgorge_bounds(bytes: &[u8], place: usize, order: &[u8], pai
     ensures { LeavesBounds (bounds_for bytes.now place order.now pair.old) result pair.old pair.new }
 {
     if pair.len() < 16 {
-        return numbers::short_bounds(planner::bounds(bytes, 0, order));
+        return numbers::short_code(planner::bounds(bytes, 0, order));
     }
     limits::keep(pair, planner::bounds(bytes, place, order))
 }

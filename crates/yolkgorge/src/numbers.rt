@@ -1,90 +1,115 @@
 // Answers and sides as plain numbers.
-ghost use Rattle.std.specs.Prelude.{◌≡◌, ◌<◌, ◌^◌, pos, neg_ℤ};
-ghost use Rattle.planning.specs.Answer.{answer_of, bounded_of, checked_of};
-ghost use Rattle.session.specs.Session.{replied};
-ghost use Rattle.yolkgorge.specs.Number.{number_for, code_of, or_short, side_of, CountFits};
+ghost use Rattle.std.specs.Prelude.{◌≡◌, ℕ};
+ghost use Rattle.planning.specs.Answer.{answer_of};
+ghost use Rattle.yolkgorge.specs.Number.{number_for, numbered, code_of, or_short, side_of, CountFits, plan_number, bounds_number, check_number, report_number};
 
-use planning::{Bounded, Checked, Planned};
-use session::{Reply, Side};
+use planning::{BoundsError, CheckError, PlanError};
+use session::{ReportError, Side};
 
-// Minus a number.
-fn minus(number: u32) -> i64
-    ensures { result ≡ neg_ℤ (pos number) }
-{
-    0 - number as i64
+// The refusals that are not of a record, by the numbers of yolkgorge.h.
+pub(crate) const SHORT: u32 = 8;
+
+const IMPOSSIBLE: u32 = 9;
+
+const UNFIT: u32 = 10;
+
+const FINISHED: u32 = 11;
+
+const UNSAFE: u32 = 12;
+
+// Errors that have a number in C.
+pub(crate) trait Numbered: Copy {
+    ghost number: { Self → ℕ };
+
+    fn number(self) -> u32
+        ensures { result ≡ number self };
 }
 
-// A step count.
-fn steps(count: usize) -> i64
-    requires { count < 2 ^ 63 }
-    ensures { result ≡ pos count }
-{
-    count as i64
+impl Numbered for PlanError {
+    ghost number = { plan_number };
+
+    fn number(self) -> u32 {
+        match self {
+            PlanError::Refused(e) => u32::from(e),
+            PlanError::Impossible => IMPOSSIBLE,
+        }
+    }
+}
+
+impl Numbered for BoundsError {
+    ghost number = { bounds_number };
+
+    fn number(self) -> u32 {
+        match self {
+            BoundsError::Refused(e) => u32::from(e),
+            BoundsError::WrongOrder => UNSAFE,
+        }
+    }
+}
+
+impl Numbered for CheckError {
+    ghost number = { check_number };
+
+    fn number(self) -> u32 {
+        match self {
+            CheckError::Refused(e) => u32::from(e),
+            CheckError::Unsafe => UNSAFE,
+        }
+    }
+}
+
+impl Numbered for ReportError {
+    ghost number = { report_number };
+
+    fn number(self) -> u32 {
+        match self {
+            ReportError::Short => SHORT,
+            ReportError::Finished => FINISHED,
+            ReportError::Unfit => UNFIT,
+        }
+    }
 }
 
 // The step count of a plan, or minus the number of the refusal.
-pub(crate) fn steps_or_refusal(answer: Planned) -> i64
+pub(crate) fn steps_or_refusal(answer: Result<usize, PlanError>) -> i64
     requires { CountFits (answer_of answer) }
     ensures { result ≡ number_for (answer_of answer) }
 {
     match answer {
-        Planned::Refused(e) => minus(contract::number_of(e)),
-        Planned::Impossible => minus(9),
-        Planned::Steps(n) => steps(n),
+        Ok(steps) => steps as i64,
+        Err(e) => -i64::from(e.number()),
     }
 }
 
-// 0 for a plan that is accepted, else the number of the refusal.
-pub(crate) fn check_number(answer: Checked) -> u32
-    ensures { result ≡ code_of (checked_of answer) }
+// 0 for success, else the number of the refusal.
+pub(crate) fn code<T: Copy, E: Numbered>(answer: Result<T, E>) -> u32
+    ensures { result ≡ code_of (numbered E.number answer) }
 {
     match answer {
-        Checked::Refused(e) => contract::number_of(e),
-        Checked::Unsafe => 12,
-        Checked::Accepted => 0,
+        Ok(_) => 0,
+        Err(e) => e.number(),
     }
 }
 
-// The number of a check's answer where an area of the caller's is too short.
-pub(crate) fn short_number(answer: Checked) -> u32
-    ensures { result ≡ code_of (or_short (checked_of answer)) }
+// The number of an answer where an area of the caller's is too short.
+pub(crate) fn short_code<T: Copy, E: Numbered>(answer: Result<T, E>) -> u32
+    ensures { result ≡ code_of (or_short (numbered E.number answer)) }
 {
     match answer {
-        Checked::Refused(e) => contract::number_of(e),
-        Checked::Unsafe => 8,
-        Checked::Accepted => 8,
+        Ok(_) => SHORT,
+        Err(e) => e.number().min(SHORT),
     }
 }
 
-// 0 for a report that is taken, else the number of the refusal.
-pub(crate) fn reply_number(reply: Reply) -> u32
-    ensures { result ≡ code_of (replied reply) }
-{
-    match reply {
-        Reply::Taken => 0,
-        Reply::Short => 8,
-        Reply::Finished => 11,
-        Reply::Unfit => 10,
-    }
-}
-
-// The number of an answer with bounds where an area of the caller's is too short.
-pub(crate) fn short_bounds(answer: Bounded) -> u32
-    ensures { result ≡ code_of (or_short (bounded_of answer)) }
-{
-    match answer {
-        Bounded::Refused(e) => contract::number_of(e),
-        Bounded::WrongOrder => 8,
-        Bounded::Between(_) => 8,
-    }
-}
-
-// The side that the number 0 or 1 names: delivery or payment.
-pub(crate) fn side_of(number: u32) -> Side
+// The side that a number names: 0 is delivery, 1 is payment. The test of all others stands first: as a match it makes each report slower.
+pub(crate) fn side_of(number: u32) -> Option<Side>
     ensures { result ≡ side_of number }
 {
-    if number == 0 {
-        return Side::Delivery;
+    if number > 1 {
+        return None;
     }
-    Side::Payment
+    if number == 0 {
+        return Some(Side::Delivery);
+    }
+    Some(Side::Payment)
 }

@@ -1,90 +1,80 @@
-// A session in a byte area: the steps passed in eight bytes, then one byte for each mark.
+// A session in a byte area: the steps passed in eight bytes, then one byte for each mark. The area stays a slice with its length asked for: the
+// promises to C are about all of what C lends, whatever its length.
 ghost use Rattle.std.specs.Prelude.{◌≡◌, ◌≤◌, length};
-ghost use Rattle.session.specs.Session.{report_in};
-ghost use Rattle.yolkgorge.specs.Number.{code_of};
-ghost use Rattle.yolkgorge.specs.SessionBytes.{session_in, stored_bytes, stored_on, mark_byte};
-ghost use Rattle.yolkgorge.specs.Sessions.{Leaves, report_nowhere};
+ghost use Rattle.contract.specs.Res.{refused};
+ghost use Rattle.yolkgorge.specs.Number.{numbered, report_number};
+ghost use Rattle.yolkgorge.specs.SessionBytes.{session_in, stored_in};
+ghost use Rattle.yolkgorge.specs.Sessions.{Leaves, report_by, report_nowhere};
 
-use session::{Session, Side};
+use crate::numbers::{Numbered, side_of};
+use area::Entry;
+use session::{Plan, ReportError, Session};
 
-fn mark_byte(mark: bool) -> u8
-    ensures { result ≡ mark_byte mark }
-{
-    if mark {
-        return 1;
-    }
-    0
-}
-
-// The session in an area.
+// The session in an area. Between `usize` and `u64` there is no `From`.
 pub(crate) fn take(state: &[u8]) -> Session
     requires { 10 ≤ length state.now }
     ensures { result ≡ session_in state.now }
 {
-    let passed = crate::words::num_u64(state, 0) as usize;
-    let delivered = state[8] != 0;
-    let paid = state[9] != 0;
     Session {
-        passed,
-        delivered,
-        paid,
+        passed: u64::load(state, 0) as usize,
+        delivered: state[8] != 0,
+        paid: state[9] != 0,
     }
 }
 
 // Stores a session.
-fn store(state: &mut [u8], passed: usize, delivered: u8, paid: u8)
+fn store(state: &mut [u8], session: Session)
     requires { 10 ≤ length state.old }
-    ensures { state.new ≡ stored_bytes state.old passed delivered paid }
+    ensures { state.new ≡ stored_in state.old session }
 {
-    crate::words::put_u64(state, 0, passed as u64);
-    state[8] = delivered;
-    state[9] = paid;
+    (session.passed as u64).save(state, 0);
+    state[8] = u8::from(session.delivered);
+    state[9] = u8::from(session.paid);
 }
 
-// Answers a number, and stores the session if the number is that of success.
-pub(crate) fn keep(state: &mut [u8], number: u32, session: Session) -> u32
+// Answers 0 and stores the session, or answers the number of the refusal. It stays beside `limits::keep`: what each leaves is a promise to C of
+// its own, and one function would need a trait over the two for five lines.
+pub(crate) fn keep<E: Numbered>(state: &mut [u8], answer: Result<Session, E>) -> u32
     requires { 10 ≤ length state.old }
-    ensures { (result ≡ number) × (state.new ≡ stored_on state.old number session) }
+    ensures { Leaves (numbered E.number answer) result state.old state.new }
 {
-    if number == 0 {
-        store(
-            state,
-            session.passed,
-            mark_byte(session.delivered),
-            mark_byte(session.paid),
-        );
-        return 0;
+    match answer {
+        Ok(session) => {
+            store(state, session);
+            0
+        }
+        Err(e) => e.number(),
     }
-    number
 }
 
-// Reports on a side of the session in an area.
-pub(crate) fn report_side(
-    state: &mut [u8],
-    count: usize,
-    places: &[u8],
-    sums: &[u8],
-    side: Side,
+// The session after a report, by the number of its side, on the one in an area.
+pub(crate) fn report(
+    state: &[u8],
+    plan: &Plan<'_>,
+    side: u32,
     number: u32,
-) -> u32
-    requires { 10 ≤ length state.old }
-    ensures { Leaves (report_in count places.now sums.now (session_in state.old) side number) result state.old state.new }
+) -> Result<Session, ReportError>
+    requires { 10 ≤ length state.now }
+    ensures { numbered report_number result ≡ report_by plan.now.count plan.now.places.now plan.now.sums.now (session_in state.now) side number }
 {
-    let reported = take(state).report(count, places, sums, side, number);
-    let reply = reported.reply;
-    keep(state, crate::numbers::reply_number(reply), reported.session)
+    let Some(side) = side_of(side) else {
+        return Err(nowhere(state, plan));
+    };
+    let reported = take(state).report(plan, side, number);
+    reported.reply?;
+    Ok(reported.session)
 }
 
-// Answers a report that names no side. It is refused as one on any side is, but for fitting.
-pub(crate) fn report_nowhere(state: &[u8], count: usize, places: &[u8], sums: &[u8]) -> u32
+// Why a report that names no side is refused: as one on any side is, but for fitting.
+fn nowhere(state: &[u8], plan: &Plan<'_>) -> ReportError
     requires { 10 ≤ length state.now }
-    ensures { result ≡ code_of (report_nowhere count places.now sums.now (session_in state.now)) }
+    ensures { refused (report_number result) ≡ report_nowhere plan.now.count plan.now.places.now plan.now.sums.now (session_in state.now) }
 {
-    if !session::holds(count, places, sums) {
-        return 8;
+    if !plan.holds() {
+        return ReportError::Short;
     }
-    if take(state).finished(count) {
-        return 11;
+    if take(state).finished(plan.count) {
+        return ReportError::Finished;
     }
-    10
+    ReportError::Unfit
 }

@@ -1,28 +1,26 @@
 -- `along::plan_items` meets its contract, by the contracts of its callees. Assumes nothing.
-use mathlib.Core.Path.{sym, ◌∙◌}
-use native.Mathlib.Omega.{arith}
-use borrow.Author.Tests.{not-true, not-false}
-use Rattle.planning.proofs.NamedOrder.{few_items}
-use Rattle.along.proofs.PlanLaws.{too_short, prices_room, prices_impossible, prices_can, prices_plans}
+use mathlib.Core.Path.{sym, ap, ◌∙◌}
+use Rattle.std.proofs.Common.{Ok}
+use Rattle.along.proofs.PlanLaws.{prices_room, prices_short, prices_impossible, prices_fit, prices_plans, prices_stuck}
 use Rattle.along.proofs.plan_items.Goals as goal
 
 pub returns-then-not-has_room : goal.returns-then-not-has_room
-returns-then-not-has_room c = too_short _ _ _ (sym (prices_room _ _ _ _ c.requires _ _ _ c.sum_units.ensures.0 c.has_room.ensures) ∙ c.if-not-has_room.true)
+returns-then-not-has_room c = prices_short c.args.terms.now c.requires _ c.sum_units.ensures.value _ c.unwrap-u.ensures _ _ c.has_room.ensures _ c.if-not-has_room.true
 
-pub returns-then-not-chosen : goal.returns-then-not-chosen
-returns-then-not-chosen c = prices_impossible _ _ _ _ c.requires _ _ _ _ (sym (prices_room _ _ _ _ c.requires _ _ _ c.sum_units.ensures.0 c.has_room.ensures) ∙ c.if-not-has_room.false) _ (c.choose-chosen.ensures _) (not-true _ c.if-not-chosen.true)
+pub returns-in_default : goal.returns-in_default
+returns-in_default c = prices_impossible c.args.terms.now c.requires _ _ _ _ (sym (prices_room c.args.terms.now c.requires _ c.sum_units.ensures.value _ c.unwrap-u.ensures _ _ c.has_room.ensures) ∙ c.if-not-has_room.false) _ (c.choose.ensures _) c.in_default.is
 
-pub slice_bounds-plan_segments-end : goal.slice_bounds-plan_segments-end
-slice_bounds-plan_segments-end c = let h = few_items _ _ _ _ c.requires in omega arith
+pub unwrap-requires : goal.unwrap-requires
+unwrap-requires c =
+    prices_fit c.args.terms.now c.requires _ (c.choose.ensures _) _ c.in-Some.is _ _ _ c.pick-us.ensures c.pick-cs.ensures c.pick-vs.ensures _ _ _ c.args.order.now _ _
+    (sym (prices_room c.args.terms.now c.requires _ c.sum_units.ensures.value _ c.unwrap-u.ensures _ _ c.has_room.ensures) ∙ c.if-not-has_room.false) _ c.plan.ensures
 
-pub slice_bounds-plan_segments-end-2 : goal.slice_bounds-plan_segments-end-2
-slice_bounds-plan_segments-end-2 c = let h = few_items _ _ _ _ c.requires in omega arith
+pub returns-in-None : goal.returns-in-None
+returns-in-None c =
+    prices_stuck c.args.terms.now c.requires _ (c.choose.ensures _) _ c.in-Some.is _ _ _ c.pick-us.ensures c.pick-cs.ensures c.pick-vs.ensures _ _ _ _ _ _
+    (sym (prices_room c.args.terms.now c.requires _ c.sum_units.ensures.value _ c.unwrap-u.ensures _ _ c.has_room.ensures) ∙ c.if-not-has_room.false) _ c.plan.ensures (c.unwrap.ensures ∙ ap Ok c.in-None.is)
 
-pub slice_bounds-plan_segments-end-3 : goal.slice_bounds-plan_segments-end-3
-slice_bounds-plan_segments-end-3 c = let h = few_items _ _ _ _ c.requires in omega arith
-
-pub plan_segments-requires : goal.plan_segments-requires
-plan_segments-requires c = prices_can _ _ _ _ c.requires _ (c.choose-chosen.ensures _) (not-false _ c.if-not-chosen.false) _ _ _ c.pick_units-us.ensures c.pick_amounts-cs.ensures c.pick_amounts-vs.ensures _ (sym (prices_room _ _ _ _ c.requires _ _ _ c.sum_units.ensures.0 c.has_room.ensures) ∙ c.if-not-has_room.false)
-
-pub returns : goal.returns
-returns c = prices_plans _ _ _ _ c.requires _ (c.choose-chosen.ensures _) (not-false _ c.if-not-chosen.false) _ _ _ c.pick_units-us.ensures c.pick_amounts-cs.ensures c.pick_amounts-vs.ensures _ _ _ _ _ _ _ (sym (prices_room _ _ _ _ c.requires _ _ _ c.sum_units.ensures.0 c.has_room.ensures) ∙ c.if-not-has_room.false) _ c.plan_segments.ensures
+pub returns-in-Some-unwrap : goal.returns-in-Some-unwrap
+returns-in-Some-unwrap c =
+    prices_plans c.args.terms.now c.requires _ (c.choose.ensures _) _ c.in-Some.is _ _ _ c.pick-us.ensures c.pick-cs.ensures c.pick-vs.ensures _ _ _ _ _ _
+    (sym (prices_room c.args.terms.now c.requires _ c.sum_units.ensures.value _ c.unwrap-u.ensures _ _ c.has_room.ensures) ∙ c.if-not-has_room.false) _ c.plan.ensures (c.unwrap.ensures ∙ ap Ok c.in-Some-unwrap.is) c.store.ensures

@@ -2,7 +2,7 @@
 use mathlib.Core.Path.{sym, ◌∙◌}
 use lib.ListN.{replicate}
 use Rattle.planning.proofs.Outcome.{room}
-use Rattle.along.proofs.PlanLaws.{ladder_short, ladder_room, ladder_can, ladder_plans, ladder_impossible, ladder_unfit}
+use Rattle.along.proofs.PlanLaws.{ladder_short, ladder_room, ladder_can, ladder_plans, ladder_impossible}
 use Rattle.along.proofs.RoomLaws.{stored_eight}
 use Rattle.along.proofs.plan_ladder.Goals as goal
 
@@ -12,11 +12,8 @@ returns-then-not-has_room c = ladder_short _ c.args.bytes.now c.args.l c.require
 pub plan-requires : goal.plan-requires
 plan-requires c = ladder_can c.args.bytes.now c.args.l c.requires _ c.ladder_of.ensures _ _ c.args.order.now (sym (ladder_room c.args.bytes.now c.args.l _ _ c.has_room.ensures) ∙ c.if-not-has_room.false)
 
-pub returns-in-Steps : goal.returns-in-Steps
-returns-in-Steps c = ladder_plans c.args.bytes.now c.args.l c.requires _ c.ladder_of.ensures _ _ c.args.order.now (sym (ladder_room c.args.bytes.now c.args.l _ _ c.has_room.ensures) ∙ c.if-not-has_room.false) c.args.aim _ _ _ c.plan.ensures _ c.in-Steps.is _ (stored_eight c.args.order.now (replicate 8 0) _ (room _ _ _ (sym (ladder_room c.args.bytes.now c.args.l _ _ c.has_room.ensures) ∙ c.if-not-has_room.false)).order c.store.ensures)
+pub returns-in-None : goal.returns-in-None
+returns-in-None c = ladder_impossible c.args.bytes.now c.args.l c.requires _ c.ladder_of.ensures _ _ c.args.order.now (sym (ladder_room c.args.bytes.now c.args.l _ _ c.has_room.ensures) ∙ c.if-not-has_room.false) c.args.aim _ _ _ c.plan.ensures c.in-None.is
 
-pub returns-in-Impossible : goal.returns-in-Impossible
-returns-in-Impossible c = ladder_impossible c.args.bytes.now c.args.l c.requires _ c.ladder_of.ensures _ _ c.args.order.now (sym (ladder_room c.args.bytes.now c.args.l _ _ c.has_room.ensures) ∙ c.if-not-has_room.false) c.args.aim _ _ _ c.plan.ensures c.in-Impossible.is
-
-pub returns-in-Unfit : goal.returns-in-Unfit
-returns-in-Unfit c = ladder_unfit c.args.bytes.now c.args.l c.requires _ c.ladder_of.ensures _ _ c.args.order.now (sym (ladder_room c.args.bytes.now c.args.l _ _ c.has_room.ensures) ∙ c.if-not-has_room.false) c.args.aim _ _ _ c.plan.ensures c.in-Unfit.is
+pub returns-in-Some : goal.returns-in-Some
+returns-in-Some c = ladder_plans c.args.bytes.now c.args.l c.requires _ c.ladder_of.ensures _ _ c.args.order.now (sym (ladder_room c.args.bytes.now c.args.l _ _ c.has_room.ensures) ∙ c.if-not-has_room.false) c.args.aim _ _ _ c.plan.ensures _ c.in-Some.is _ (stored_eight c.args.order.now (replicate 8 0) _ (room _ _ _ (sym (ladder_room c.args.bytes.now c.args.l _ _ c.has_room.ensures) ∙ c.if-not-has_room.false)).order c.store.ensures)

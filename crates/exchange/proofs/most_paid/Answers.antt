@@ -1,5 +1,5 @@
 -- `exchange::most_paid` meets its contract. Assumes nothing.
-use mathlib.Core.Path.{◌≡◌}
+use mathlib.Core.Path.{◌≡◌, ◌∙◌}
 use mathlib.Core.Bool.{true, false}
 use Prim.Native.Nat.{◌<◌}
 use native.Mathlib.Omega.{arith}
@@ -8,7 +8,7 @@ use lib.IntN.{pos, nat_abs}
 use lib.Signed.{lt_z}
 use mir.Syntax.{w64}
 use mir.Val.{to_z, of_z}
-use mir.Facts.{to_z-of_z, to_z_pos}
+use mir.Facts.{to_z-of_z}
 use Rattle.exchange.specs.Rule.{coins}
 use Rattle.exchange.proofs.Int.{not_less_≤}
 use Rattle.exchange.proofs.Clipped.{most_same}
@@ -28,21 +28,21 @@ overflow_cast-result c =
     let signed : lt_z c.unclipped_upper-bound.result (pos 0) ≡ false = let f : lt_z (to_z w64 (of_z w64 c.unclipped_upper-bound.result)) (pos 0) ≡ false = c.if-bound-lt0.false in
     rw (back) at f in
     let under : coins c.unclipped_upper-bound.result < c.args.price = let P = c.args.price in
-    let m : to_z w64 P ≡ pos P = to_z_pos w64 {n = P} (omega arith) in
-    let g : lt_z (to_z w64 (of_z w64 c.unclipped_upper-bound.result)) (to_z w64 P) ≡ true = c.if-bound-price.true in
+    let m : to_z w64 (of_z w64 c.from.result) ≡ pos P = to_z-of_z {w = w64} (search rules) ∙ c.from.ensures in
+    let g : lt_z (to_z w64 (of_z w64 c.unclipped_upper-bound.result)) (to_z w64 (of_z w64 c.from.result)) ≡ true = c.if-bound-from.true in
     coins_under c.unclipped_upper-bound.result P (signed) (rw (back, m) at g) in
     let s = coins_some c.unclipped_upper-bound.result (not_less_≤ _ _ (signed)) in
     let n : nat_abs c.unclipped_upper-bound.result ≡ coins c.unclipped_upper-bound.result = s.1 in
     rw (back) (s.0, record { fits = omega (arith, under) })
 
-pub returns-then-bound-price : goal.returns-then-bound-price
-returns-then-bound-price c =
+pub returns-then-bound-from : goal.returns-then-bound-from
+returns-then-bound-from c =
     let back : to_z w64 (of_z w64 c.unclipped_upper-bound.result) ≡ c.unclipped_upper-bound.result = to_z-of_z {w = w64} (search rules) in
     let signed : lt_z c.unclipped_upper-bound.result (pos 0) ≡ false = let f : lt_z (to_z w64 (of_z w64 c.unclipped_upper-bound.result)) (pos 0) ≡ false = c.if-bound-lt0.false in
     rw (back) at f in
     let under : coins c.unclipped_upper-bound.result < c.args.price = let P = c.args.price in
-    let m : to_z w64 P ≡ pos P = to_z_pos w64 {n = P} (omega arith) in
-    let g : lt_z (to_z w64 (of_z w64 c.unclipped_upper-bound.result)) (to_z w64 P) ≡ true = c.if-bound-price.true in
+    let m : to_z w64 (of_z w64 c.from.result) ≡ pos P = to_z-of_z {w = w64} (search rules) ∙ c.from.ensures in
+    let g : lt_z (to_z w64 (of_z w64 c.unclipped_upper-bound.result)) (to_z w64 (of_z w64 c.from.result)) ≡ true = c.if-bound-from.true in
     coins_under c.unclipped_upper-bound.result P (signed) (rw (back, m) at g) in
     let n : nat_abs c.unclipped_upper-bound.result ≡ coins c.unclipped_upper-bound.result = (coins_some c.unclipped_upper-bound.result (not_less_≤ _ _ (signed))).1 in
     rw (back, most_same _ _ _ _, ← c.unclipped_upper-bound.ensures) (omega (arith, under))
@@ -52,7 +52,7 @@ returns c =
     let z = c.unclipped_upper-bound.result in
     let P = c.args.price in
     let k : to_z w64 (of_z w64 z) ≡ z = to_z-of_z {w = w64} (search rules) in
-    let m : to_z w64 P ≡ pos P = to_z_pos w64 {n = P} (omega arith) in
+    let m : to_z w64 (of_z w64 c.from.result) ≡ pos P = to_z-of_z {w = w64} (search rules) ∙ c.from.ensures in
     let f : lt_z (to_z w64 (of_z w64 z)) (pos 0) ≡ false = c.if-bound-lt0.false in
-    let g : lt_z (to_z w64 (of_z w64 z)) (to_z w64 P) ≡ false = c.if-bound-price.false in
+    let g : lt_z (to_z w64 (of_z w64 z)) (to_z w64 (of_z w64 c.from.result)) ≡ false = c.if-bound-from.false in
     rw (most_same _ _ _ _, ← c.unclipped_upper-bound.ensures) (omega (arith, coins_over z P (rw k at f) (rw (k, m) at g)))

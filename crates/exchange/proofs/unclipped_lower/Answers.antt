@@ -7,4 +7,4 @@ use Rattle.exchange.proofs.BoundLaws.{lower_is}
 use Rattle.exchange.proofs.unclipped_lower.Goals as goal
 
 pub returns : goal.returns
-returns c = to_z-of_z {w = w64} (search rules) ∙ c.minus.ensures ∙ sym (lower_is c.args.price c.args.value_last c.args.value_here c.args.buyer)
+returns c = to_z-of_z {w = w64} (search rules) ∙ (rw (c.from.ensures, c.from-2.ensures, c.from-3.ensures, c.from-4.ensures) at c.minus.ensures) ∙ sym (lower_is c.args.price c.args.value_last c.args.value_here c.args.buyer)

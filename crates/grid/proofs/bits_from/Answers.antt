@@ -3,9 +3,9 @@ use Rattle.grid.specs.Map.{bits_from}
 use Rattle.grid.proofs.MapLaws.{none_past}
 use Rattle.grid.proofs.bits_from.Goals as goal
 
-pub returns-then-map-i : goal.returns-then-map-i
-returns-then-map-i c = sym (none_past _ _ c.if-map-i.true)
-
-pub returns : goal.returns
+pub returns-in-Some : goal.returns-in-Some
 unfolding bits_from
-returns c = rw c.byte-m.ensures.0
+returns-in-Some c = rw (c.from.ensures, c.in-Some.ensures.lookup.3.1 0)
+
+pub returns-in-None : goal.returns-in-None
+returns-in-None c = sym (none_past _ _ c.in-None.ensures.lookup.3)

@@ -1,52 +1,42 @@
-use mathlib.Core.Path.{◌∙◌}
+use mathlib.Core.Path.{◌≡◌, refl, sym, ap, ◌∙◌}
+use mathlib.Core.Bool.{cond}
+use Prim.Native.Nat.{ℕ, ◌+◌}
 use native.Mathlib.Omega.{arith}
-use lib.ListN.{length-set}
+use borrow.Author.Tests.{eqb-true}
+use lib.ListN.{get_or}
+use Rattle.area.specs.Entries.{entries}
+use Rattle.grid.specs.Rows.{largest_below}
+use Rattle.grid.specs.Map.{bit_at, stands}
 use Rattle.grid.proofs.BelowLaws.{largest_all, row_at}
-use Rattle.grid.proofs.MapLaws.{standing_le}
-use Rattle.grid.proofs.FillLaws.{filling_start, filling_turn, filling_length, filling_done}
+use Rattle.grid.proofs.MapLaws.{not_standing, standing_le}
+use Rattle.grid.proofs.FillLaws.{filling_start, filling_turn, filling_length}
 use Rattle.grid.proofs.fill_rows.Goals as goal
-
-pub strides_of-strides-requires : goal.strides_of-strides-requires
-strides_of-strides-requires c = c.requires.0
+use Rattle.grid.proofs.fill_rows.Goals.{then-stands, else-stands}
 
 pub loop-r-init : goal.loop-r-init
 loop-r-init c = filling_start _ _ _ _
 
-pub offset_bounds-words-r : goal.offset_bounds-words-r
-offset_bounds-words-r c = omega arith
-
-pub bounds-words-r : goal.bounds-words-r
-bounds-words-r c = omega (arith, c.requires.1.few, filling_length c.loop-r.invariant)
-
 pub largest_below-below-requires : goal.largest_below-below-requires
-largest_below-below-requires c = row_at c.args.units.now c.strides_of-strides.result c.loop-r.cells c.loop-r.r c.requires.0 c.strides_of-strides.ensures c.loop-r-test.true (c.requires.1.word_at c.loop-r.r (omega (arith, filling_length c.loop-r.invariant))) c.loop-r.invariant.last_is
+largest_below-below-requires c =
+    row_at c.args.units.now c.strides_of-strides.result c.loop-r.cells c.loop-r.r c.requires.0 c.strides_of-strides.ensures (omega (arith, filling_length c.loop-r.invariant)) (c.requires.1.word_at c.loop-r.r (omega arith)) c.loop-r.invariant.last_is
 
-pub cell_at-c-requires : goal.cell_at-c-requires
-cell_at-c-requires c = omega (arith, standing_le c.args.map.now c.loop-r.r, c.loop-r.invariant.used_is)
-
-pub offset_bounds-cells-r : goal.offset_bounds-cells-r
-offset_bounds-cells-r c = omega arith
-
-pub bounds-cells-r : goal.bounds-cells-r
-bounds-cells-r c = omega arith
-
-pub still_rising-rises-requires : goal.still_rising-rises-requires
-still_rising-rises-requires c = tt
-
-pub overflow_add-r : goal.overflow_add-r
-overflow_add-r c = omega arith
-
-pub loop-r-smaller : goal.loop-r-smaller
-loop-r-smaller c = simp length-set (omega arith)
+pub overflow_add-used : goal.overflow_add-used
+overflow_add-used c = omega (arith, standing_le c.args.map.now c.loop-r.r, c.loop-r.invariant.used_is)
 
 pub loop-r-preserved : goal.loop-r-preserved
 loop-r-preserved c =
-    filling_turn c.loop-r.invariant c.loop-r-test.true
-    (c.largest_below-below.ensures ∙ rw (c.requires.1.word_at c.loop-r.r (omega (arith, filling_length c.loop-r.invariant))) (largest_all c.args.units.now c.strides_of-strides.result c.loop-r.cells c.loop-r.r c.requires.0 c.strides_of-strides.ensures))
-    c.cell_at-c.ensures.0 c.cell_at-c.ensures.1 c.still_rising-rises.ensures
-
-pub shape_of-cells : goal.shape_of-cells
-shape_of-cells c = filling_length c.loop-r.invariant
-
-pub returns : goal.returns
-returns c = filling_done c.loop-r.invariant c.loop-r-test.false
+    let us = c.args.units.now in
+    let map = c.args.map.now in
+    let l = c.loop-r in
+    let below : c.largest_below-below.result ≡ largest_below us l.cells l.r = c.largest_below-below.ensures ∙ rw (c.requires.1.word_at l.r (omega arith)) (largest_all us c.strides_of-strides.result l.cells l.r c.requires.0 c.strides_of-strides.ensures) in
+    let cell : c.if-stands.last ≡ cond (stands map l.r) (get_or (entries 4 c.args.given.now) l.used 0) c.largest_below-below.result =
+    elim c.if-stands.branch [
+      | then-stands w ↦ w.last-is ∙ rw (← c.stands.ensures, w.if-stands.true) w.entry-last.ensures
+      | else-stands w ↦ w.last-is ∙ rw (← c.stands.ensures, w.if-stands.false)
+    ] in
+    let used : c.if-stands.used ≡ l.used + bit_at map l.r =
+    elim c.if-stands.branch [
+      | then-stands w ↦ w.used-is ∙ ap (λ (n : ℕ). l.used + n) (sym (eqb-true _ _ (sym c.stands.ensures ∙ w.if-stands.true)))
+      | else-stands w ↦ omega (arith, w.used-is, not_standing map l.r (sym c.stands.ensures ∙ w.if-stands.false))
+    ] in
+    filling_turn l.invariant (omega (arith, filling_length l.invariant)) below cell used refl

@@ -10,8 +10,8 @@ with_bit-requires c = (bits_clear _ _ c.requires, omega arith)
 
 pub returns-then-i-map : goal.returns-then-i-map
 unfolding marked
-returns-then-i-map c = rw (c.if-stand.true, c.with_bit.ensures)
+returns-then-i-map c = rw c.with_bit.ensures
 
 pub returns-else-i-map : goal.returns-else-i-map
 unfolding marked
-returns-else-i-map c = rw c.if-stand.true (sym (set_out _ _ _ c.if-i-map.false))
+returns-else-i-map c = sym (set_out _ _ _ c.if-i-map.false)

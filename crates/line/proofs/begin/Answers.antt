@@ -7,4 +7,4 @@ returns-then-n-eq0 c = begun_none _ _ c.first_count-n.ensures _ _ c.if-n-eq0.tru
 
 pub returns : goal.returns
 returns c =
-    begun_one _ _ c.first_count-n.ensures _ _ c.if-n-eq0.false _ _ c.store_u16.ensures c.store_u32.ensures c.requires.1 c.requires.2
+    begun_one _ _ c.first_count-n.ensures _ _ c.if-n-eq0.false _ _ c.store.ensures c.store-2.ensures c.requires.1 c.requires.2

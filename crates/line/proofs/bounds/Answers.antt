@@ -1,15 +1,15 @@
 -- `line::bounds` meets its contract, by the contracts of its callees. Assumes nothing.
-use Rattle.line.proofs.PlaceLaws.{sum_known, sum_unfit, unfit_place, no_place, first_ahead, bounded}
+use Rattle.std.proofs.lemmas.Result.{err_from_is_err_and}
+use Rattle.line.proofs.PlaceLaws.{unfit_place, no_place, place_here}
 use Rattle.line.proofs.bounds.Goals as goal
 
-pub returns-in_default : goal.returns-in_default
-returns-in_default c = unfit_place _ _ _ _ (sum_unfit _ _ _ c.add_up.ensures c.in_default.is)
+pub returns-in_err-all : goal.returns-in_err-all
+returns-in_err-all c =
+    let p = err_from_is_err_and c.from_residual.result c.from_residual.ensures.1 in
+    rw p.1 (unfit_place _ _ _ _ c.in_err-all.ensures)
 
-pub returns-then-t-place : goal.returns-then-t-place
-returns-then-t-place c = no_place _ _ _ _ _ (sum_known _ _ _ c.add_up.ensures c.in-Fits.is) c.if-t-place.true
-
-pub advance-c-requires : goal.advance-c-requires
-advance-c-requires c = first_ahead _ _ _ _ _ (sum_known _ _ _ c.add_up.ensures c.in-Fits.is) c.if-t-place.false _ c.first.ensures
+pub returns-then-all-place : goal.returns-then-all-place
+returns-then-all-place c = no_place _ _ _ _ _ c.in_ok-all.ensures c.if-all-place.true
 
 pub returns : goal.returns
-returns c = bounded _ _ _ _ _ (sum_known _ _ _ c.add_up.ensures c.in-Fits.is) _ c.if-t-place.false _ c.advance-c.ensures c.bounds_at.ensures
+returns c = (place_here _ _ _ _ _ c.in_ok-all.ensures c.if-all-place.false, c.bounds_line.ensures)

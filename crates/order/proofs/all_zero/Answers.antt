@@ -1,22 +1,14 @@
-use mathlib.Core.Path.{◌≡◌, refl, sym, ◌∙◌}
-use native.Mathlib.Omega.{arith}
-use lib.ListN.{length}
-use Rattle.order.proofs.Laws.{zero_same, zero_other, zero_end}
+use Rattle.std.proofs.Common.{rules, ◌≡◌, ◌∙◌}
+use borrow.Author.Tests.{tests}
+use lib.Dec.{eqb}
+use Rattle.std.specs.List.{list_all}
+use Rattle.std.proofs.lemmas.Iterator.{YieldsList-from_slice}
+use Rattle.std.proofs.lemmas.Iterator.Search.{all_from_yields_List}
+use Rattle.order.proofs.Laws.{zeros_is}
 use Rattle.order.proofs.all_zero.Goals as goal
-
-pub loop-i-init : goal.loop-i-init
-loop-i-init c = (omega arith, refl)
-
-pub returns-then-bytes-i-ne0 : goal.returns-then-bytes-i-ne0
-returns-then-bytes-i-ne0 c = sym (c.loop-i.invariant.1 ∙ zero_other _ _ c.loop-i-test.true c.if-bytes-i-ne0.true)
-
-pub loop-i-smaller : goal.loop-i-smaller
-loop-i-smaller c = omega arith
-
-pub loop-i-preserved : goal.loop-i-preserved
-loop-i-preserved c = (omega arith, c.loop-i.invariant.1 ∙ zero_same _ _ c.loop-i-test.true (omega arith))
 
 pub returns : goal.returns
 returns c =
-    let e : c.loop-i.i ≡ length c.args.bytes.now = omega arith in
-    sym (c.loop-i.invariant.1 ∙ rw e (zero_end c.args.bytes.now))
+    let h : c.all.result ≡ list_all (λ x. eqb x 0) c.args.bytes.now =
+    all_from_yields_List (λ x. eqb x 0) c.all.new.self _ c.all.result c.all.ensures.ran (YieldsList-from_slice c.args.bytes.now cc) (λ x b q k. search (rules, tests)) in
+    h ∙ zeros_is _

@@ -1,58 +1,41 @@
 use mathlib.Core.Path.{◌≡◌, sym, ◌∙◌}
-use Prim.Native.Nat.{◌≤◌}
+use native.Mathlib.Omega.{arith}
 use lib.ListN.{length}
-use lib.Seq.{length-take-le}
 use Rattle.contract.specs.declared.Refusal.TheVariants.{Range, Short}
-use Rattle.record.proofs.CountLaws.{InRange, in_range_lem, out_of_range, costs_short, values_short, items_few, cut, writes_cut}
-use Rattle.record.proofs.WriteLaws.{refuses}
+use Rattle.record.proofs.Laws.{some_of, none_of}
+use Rattle.record.proofs.CountLaws.{InRange, counted_some, counted_none, costs_short, values_short, items_few, writes_cut}
+use Rattle.record.proofs.WriteLaws.{refuses, refuses_on}
 use Rattle.record.proofs.ReadBack.{promised}
 use Rattle.record.proofs.write.Goals as goal
+use Rattle.record.proofs.write.Goals.{In_ok-n, then-costs-n-via-then-costs-n, then-costs-n-via-else-costs-n+then-values-n}
 
-pub returns-then-n-eq0 : goal.returns-then-n-eq0
-returns-then-n-eq0 c =
-    let eight : length c.args.header.units ≡ 8 = c.well_formed.0.1.1.1.1.1.1.1.0.1.0.1 in
-    promised (eight) (refuses Range (out_of_range c.args.header _ _ _ (sym c.entry_count-n.ensures ∙ c.if-n-eq0.true)))
+-- the counts are in range
+in_range : (c : In_ok-n) → InRange c.args.header c.in_ok-n.n
+in_range c = counted_some c.args.header (sym c.entry_count.ensures ∙ some_of c.entry_count.result Range c.in_ok-n.ensures.value)
+
+pub returns-in_err-n : goal.returns-in_err-n
+returns-in_err-n c =
+    let eight : length c.args.header.units ≡ 8 = omega arith in
+    let none = none_of c.entry_count.result c.in_err-n.ensures.value in
+    promised eight (refuses_on Range (counted_none c.args.header _ _ _ (sym c.entry_count.ensures ∙ none.0)) (rw none.1 at c.from_residual.ensures.1))
 
 pub returns-then-costs-n : goal.returns-then-costs-n
 returns-then-costs-n c =
-    let eight : length c.args.header.units ≡ 8 = c.well_formed.0.1.1.1.1.1.1.1.0.1.0.1 in
-    let counts : InRange c.args.header c.entry_count-n.result = in_range_lem c.args.header _ c.entry_count-n.ensures c.if-n-eq0.false in
-    promised (eight) (refuses Short (costs_short (counts) _ _ _ c.if-costs-n.true))
+    let eight : length c.args.header.units ≡ 8 = omega arith in
+    let counts = in_range (goal.at.returns-then-costs-n c).In_ok-n in
+    elim c.then-costs-n.branch [
+      | then-costs-n-via-then-costs-n w ↦ promised eight (refuses Short (costs_short counts _ _ _ w.if-costs-n.true))
+      | then-costs-n-via-else-costs-n+then-values-n w ↦ promised eight (refuses Short (values_short counts _ _ _ w.if-costs-n.false w.if-values-n.true))
+    ]
 
-pub returns-then-values-n : goal.returns-then-values-n
-returns-then-values-n c =
-    let eight : length c.args.header.units ≡ 8 = c.well_formed.0.1.1.1.1.1.1.1.0.1.0.1 in
-    let counts : InRange c.args.header c.entry_count-n.result = in_range_lem c.args.header _ c.entry_count-n.ensures c.if-n-eq0.false in
-    promised (eight) (refuses Short (values_short (counts) _ _ _ c.if-costs-n.false c.if-values-n.true))
-
-pub slice_bounds-units-end : goal.slice_bounds-units-end
-slice_bounds-units-end c =
-    let eight : length c.args.header.units ≡ 8 = c.well_formed.0.1.1.1.1.1.1.1.0.1.0.1 in
-    let counts : InRange c.args.header c.entry_count-n.result = in_range_lem c.args.header _ c.entry_count-n.ensures c.if-n-eq0.false in
-    let items : c.item_count-k.result ≤ length c.args.header.units = rw c.item_count-k.ensures (items_few (counts) (eight)) in
-    items
-
-pub slice_bounds-write_counted-end : goal.slice_bounds-write_counted-end
-slice_bounds-write_counted-end c =
-    let eight : length c.args.header.units ≡ 8 = c.well_formed.0.1.1.1.1.1.1.1.0.1.0.1 in
-    let counts : InRange c.args.header c.entry_count-n.result = in_range_lem c.args.header _ c.entry_count-n.ensures c.if-n-eq0.false in
-    let items : c.item_count-k.result ≤ length c.args.header.units = rw c.item_count-k.ensures (items_few (counts) (eight)) in
-    sym (length-take-le _ _ (items))
-
-pub slice_bounds-write_counted-end-2 : goal.slice_bounds-write_counted-end-2
-slice_bounds-write_counted-end-2 c = sym (length-take-le _ _ c.if-costs-n.false)
-
-pub slice_bounds-write_counted-end-3 : goal.slice_bounds-write_counted-end-3
-slice_bounds-write_counted-end-3 c = sym (length-take-le _ _ c.if-values-n.false)
-
-pub write_counted-requires : goal.write_counted-requires
-write_counted-requires c =
-    let eight : length c.args.header.units ≡ 8 = c.well_formed.0.1.1.1.1.1.1.1.0.1.0.1 in
-    let counts : InRange c.args.header c.entry_count-n.result = in_range_lem c.args.header _ c.entry_count-n.ensures c.if-n-eq0.false in
-    rw c.item_count-k.ensures (cut (counts) _ _ c.if-costs-n.false c.if-values-n.false (eight))
+pub shared_ref_as_front-contract : goal.shared_ref_as_front-contract
+shared_ref_as_front-contract c =
+    let eight : length c.args.header.units ≡ 8 = omega arith in
+    let counts = in_range (goal.at.shared_ref_as_front-contract c).In_ok-n in
+    omega (arith, items_few counts eight)
 
 pub returns : goal.returns
 returns c =
-    let eight : length c.args.header.units ≡ 8 = c.well_formed.0.1.1.1.1.1.1.1.0.1.0.1 in
-    let counts : InRange c.args.header c.entry_count-n.result = in_range_lem c.args.header _ c.entry_count-n.ensures c.if-n-eq0.false in
-    promised (eight) (writes_cut (counts) _ _ c.if-costs-n.false c.if-values-n.false (rw c.item_count-k.ensures at c.write_counted.ensures))
+    let eight : length c.args.header.units ≡ 8 = omega arith in
+    let counts = in_range (goal.at.returns c).In_ok-n in
+    promised eight (writes_cut counts _ _ c.if-costs-n.false c.if-values-n.false (rw c.item_count-k.ensures at c.write.ensures))

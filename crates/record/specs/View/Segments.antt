@@ -1,14 +1,15 @@
 -- What the code's segments stand for.
-use Rattle.std.specs.Prelude.{◌≡◌, Bool, cond, List, ◌++◌, ℕ, zero, suc, ◌+◌, ◌-◌, ◌*◌, ◌≤◌, eqb, length, replicate}
+use Rattle.std.specs.Prelude.{◌≡◌, Bool, cond, List, ◌++◌, ℕ, zero, suc, ◌+◌, ◌-◌, ◌*◌, ◌≤◌, eqb, length, replicate, Result}
 use Rattle.area.specs.Entries.{num, column}
-use Rattle.contract.specs.Res.{Res, refused, ok, bind, test}
-use Rattle.contract.specs.Contract.{limit, number_of}
+use Rattle.contract.specs.Res.{Res, ok, bind, test}
+use Rattle.contract.specs.Contract.{limit}
 use Rattle.contract.specs.Segments.{Sums, from, segments, segment_count, size}
 use Rattle.contract.specs.declared.Form.{Form}
 use Rattle.contract.specs.declared.Form.TheVariants.{Ladder, UnitPrices}
+use Rattle.contract.specs.declared.Refusal.{Refusal}
+use Rattle.record.specs.View.Answer.{Gives}
 use Rattle.record.specs.declared.segments.Cursor.{Cursor}
-use Rattle.record.specs.declared.segments.Step.{Step}
-use Rattle.record.specs.declared.segments.RunReply.{RunReply}
+use Rattle.record.specs.declared.segments.Run.{Run}
 
 -- the form of segments that do not state their units, or do
 abbrev pub segment_form : Bool → Form
@@ -18,11 +19,6 @@ segment_form p = cond p UnitPrices Ladder
 abbrev pub sums : Cursor → Sums
 sums c = record { at = c.at; units = c.units; cost = c.cost; value = c.value }
 
--- the number of a refusal, or the totals
-abbrev pub view_step : Step → Res Sums
-view_step (Step.Refused e) = refused (number_of e)
-view_step (Step.Next c) = ok (sums c)
-
 -- running totals are within their limits
 pub record Kept (c : Sums) : Type 0 where
   pub units : c.units ≤ 1000
@@ -30,14 +26,14 @@ pub record Kept (c : Sums) : Type 0 where
   pub value : c.value ≤ limit
 
 -- the totals reached are within their limits, and the index is e, within the record
-abbrev pub Reached : List ℕ → ℕ → Res Sums → Type 0
-Reached s e (refused n) = Unit {0}
-Reached s e (ok c) = (c.at ≡ e) × ((c.at ≤ length s) × Kept c)
+pub record Reached (s : List ℕ) (e : ℕ) (c : Sums) : Type 0 where
+  pub at : c.at ≡ e
+  pub within : c.at ≤ length s
+  pub kept : Kept c
 
 -- what reading segments gives
-pub record Steps (s : List ℕ) (e : ℕ) (answer : Res Sums) (r : Step) : Type 0 where
-  pub meets : view_step r ≡ answer
-  pub reached : Reached s e (view_step r)
+abbrev pub Steps : List ℕ → ℕ → Res Sums → Result Cursor Refusal → Type 0
+Steps s e answer r = Gives sums answer (λ c. Reached s e (sums c)) r
 
 -- n units of a ladder lie within the record, after totals within their limits
 pub record Whole (s : List ℕ) (n : ℕ) (c : Sums) : Type 0 where
@@ -73,10 +69,9 @@ found p s i =
     test 7 (eqb c.at (length s)) (
     ok (record { count = n.value; first = n.next; cost = c.cost; value = c.value }))))
 
--- the number of a refusal, or the segments found
-abbrev pub view_run : RunReply → Res Found
-view_run (RunReply.Refused e) = refused (number_of e)
-view_run (RunReply.Found r) = ok (record { count = r.count; first = r.first; cost = r.cost; value = r.value })
+-- the segments that the code's struct holds
+abbrev pub run_of : Run → Found
+run_of r = record { count = r.count; first = r.first; cost = r.cost; value = r.value }
 
 -- segments that reach to the record's end, with totals within the limit
 pub record ToEnd (p : Bool) (s : List ℕ) (r : Found) : Type 0 where
@@ -85,15 +80,9 @@ pub record ToEnd (p : Bool) (s : List ℕ) (r : Found) : Type 0 where
   pub cost : r.cost ≤ limit
   pub value : r.value ≤ limit
 
--- the segments found are so
-abbrev pub Inside : Bool → List ℕ → Res Found → Type 0
-Inside p s (refused n) = Unit {0}
-Inside p s (ok r) = ToEnd p s r
-
 -- what finding the segments gives
-pub record Runs (p : Bool) (s : List ℕ) (i : ℕ) (r : RunReply) : Type 0 where
-  pub meets : view_run r ≡ found p s i
-  pub inside : Inside p s (view_run r)
+abbrev pub Runs : Bool → List ℕ → ℕ → Result Run Refusal → Type 0
+Runs p s i r = Gives run_of (found p s i) (λ run. ToEnd p s (run_of run)) r
 
 -- the units of each item, then zeros; a ladder has none
 abbrev pub padded_units : Bool → List ℕ → ℕ → ℕ → List ℕ

@@ -1,46 +1,27 @@
 -- What the code's table stands for.
-use Rattle.std.specs.Prelude.{◌≡◌, Bool, cond, ◌&&◌, List, ℕ, ◌+◌, ◌-◌, ◌*◌, ◌≤◌, eqb, length}
+use Rattle.std.specs.Prelude.{◌≡◌, Bool, cond, ◌&&◌, List, ℕ, ◌+◌, ◌-◌, ◌*◌, ◌≤◌, eqb, length, Result}
 use Rattle.area.specs.Entries.{entries}
 use Rattle.grid.specs.Rows.{rows_of, rising}
 use Rattle.grid.specs.Units.{Small}
 use Rattle.grid.specs.Map.{standing}
 use Rattle.grid.specs.Cells.{Fills}
-use Rattle.contract.specs.Res.{Res, refused, ok}
-use Rattle.contract.specs.Contract.{number_of}
+use Rattle.contract.specs.Res.{Res}
 use Rattle.contract.specs.Field.{Head}
 use Rattle.contract.specs.Table as table
 use Rattle.contract.specs.Table.{part, units_at, grid_at, units_of}
 use Rattle.contract.specs.declared.Form.TheVariants.{Table}
-use Rattle.record.specs.View.Head.{ReadHead}
-use Rattle.record.specs.declared.table.Index.{Index}
+use Rattle.contract.specs.declared.Refusal.{Refusal}
+use Rattle.record.specs.View.Answer.{Gives}
 use Rattle.record.specs.declared.table.Grid.{Grid}
-use Rattle.record.specs.declared.table.GridReply.{GridReply}
 use Rattle.record.specs.declared.table.Layout.{Layout}
-use Rattle.record.specs.declared.table.LayoutReply.{LayoutReply}
 
--- the number of a refusal, or the index
-abbrev pub view_index : Index → Res ℕ
-view_index (Index.Refused e) = refused (number_of e)
-view_index (Index.At i) = ok i
-
--- the index reached is e, within the record
-abbrev pub Passed : List ℕ → ℕ → Res ℕ → Type 0
-Passed s e (refused n) = Unit {0}
-Passed s e (ok i) = (i ≡ e) × (i ≤ length s)
-
--- what reading n units fields gives
-pub record Units (s : List ℕ) (n i : ℕ) (r : Index) : Type 0 where
-  pub meets : view_index r ≡ units_at s n i
-  pub passed : Passed s (i + n) (view_index r)
+-- what reading n units fields gives: the index after them, within the record
+abbrev pub Units : List ℕ → ℕ → ℕ → Result ℕ Refusal → Type 0
+Units s n i r = Gives (λ j. j) (units_at s n i) (λ j. (j ≡ i + n) × (j ≤ length s)) r
 
 -- the grid that the code's struct holds
 abbrev pub grid_of : Grid → table.Grid
 grid_of g = record { map = g.map; cells = g.cells; end = g.end }
-
--- the number of a refusal, or the grid
-abbrev pub view_grid : GridReply → Res table.Grid
-view_grid (GridReply.Refused e) = refused (number_of e)
-view_grid (GridReply.Got g) = ok (grid_of g)
 
 -- these items have so many rows, at most 128
 pub record Counted (us : List ℕ) (rows : ℕ) : Type 0 where
@@ -66,31 +47,19 @@ pub record Within (s : List ℕ) (rows : ℕ) (g : table.Grid) : Type 0 where
   pub within : g.end ≤ length s
   pub counted : g.end - g.cells ≡ 4 * standing (part g.map g.cells s) rows
 
--- a grid that was found lies within the record
-abbrev pub WithinIn : List ℕ → ℕ → Res table.Grid → Type 0
-WithinIn s rows (refused n) = Unit {0}
-WithinIn s rows (ok g) = Within s rows g
-
--- the flag of a grid that was found
-abbrev pub RisesIn : List ℕ → List ℕ → GridReply → Type 0
-RisesIn s us (GridReply.Refused e) = Unit {0}
-RisesIn s us (GridReply.Got g) = RisesIs s us g
+-- a grid that was found
+pub record GridFound (s us : List ℕ) (rows : ℕ) (g : Grid) : Type 0 where
+  pub within : Within s rows (grid_of g)
+  pub rises_is : RisesIs s us g
 
 -- what reading a grid gives
-pub record Grids (s us : List ℕ) (rows m : ℕ) (r : GridReply) : Type 0 where
-  pub meets : view_grid r ≡ grid_at s rows m
-  pub within : WithinIn s rows (view_grid r)
-  pub rises_is : RisesIn s us r
+abbrev pub Grids : List ℕ → List ℕ → ℕ → ℕ → Result Grid Refusal → Type 0
+Grids s us rows m r = Gives grid_of (grid_at s rows m) (GridFound s us rows) r
 
 -- the layout that the code's struct holds
 abbrev pub layout_of : Layout → table.Layout
 layout_of t =
     record { units = t.units; units_end = t.after; rows = t.rows; costs = grid_of t.costs; values = grid_of t.values }
-
--- the number of a refusal, or the layout
-abbrev pub view_layout : LayoutReply → Res table.Layout
-view_layout (LayoutReply.Refused e) = refused (number_of e)
-view_layout (LayoutReply.Got t) = ok (layout_of t)
 
 -- at most four units fields lie within the record
 pub record Items (s : List ℕ) (first after : ℕ) : Type 0 where
@@ -106,26 +75,14 @@ pub record Laid (s : List ℕ) (t : table.Layout) : Type 0 where
   pub costs_in : Within s t.rows t.costs
   pub values_in : Within s t.rows t.values
 
--- a layout that was found lies within the record
-abbrev pub LaidIn : List ℕ → Res table.Layout → Type 0
-LaidIn s (refused n) = Unit {0}
-LaidIn s (ok t) = Laid s t
-
 -- the flags of a table's grids
 pub record TableRises (s : List ℕ) (t : Layout) : Type 0 where
   pub costs_rise : RisesIs s (units_of s (layout_of t)) t.costs
   pub values_rise : RisesIs s (units_of s (layout_of t)) t.values
 
--- those of a layout that was found
-abbrev pub TableRisesIn : List ℕ → LayoutReply → Type 0
-TableRisesIn s (LayoutReply.Refused e) = Unit {0}
-TableRisesIn s (LayoutReply.Got t) = TableRises s t
-
 -- what finding a table's parts gives
-pub record Tables (s : List ℕ) (answer : Res table.Layout) (r : LayoutReply) : Type 0 where
-  pub meets : view_layout r ≡ answer
-  pub laid : LaidIn s (view_layout r)
-  pub rises_is : TableRisesIn s r
+abbrev pub Tables : List ℕ → Res table.Layout → Result Layout Refusal → Type 0
+Tables s answer r = Gives layout_of answer (λ t. Laid s (layout_of t) × TableRises s t) r
 
 -- the cells of a grid: the given ones where the flag says that all are given and none falls, else those that were filled
 abbrev pub grid_cells : List ℕ → Grid → List ℕ → List ℕ
@@ -137,7 +94,7 @@ Filled s us g before rises after = Fills us (part g.map g.cells s) (given_in s g
 
 -- a table's head and layout, and two work areas with a cell for each row
 pub record Working (s : List ℕ) (h : Head) (t : Layout) (c v : List ℕ) : Type 0 where
-  pub head : ReadHead Table h
+  pub form_is : h.form ≡ Table
   pub laid : Laid s (layout_of t)
   pub rises_is : TableRises s t
   pub costs_long : length c ≡ t.rows

@@ -1,5 +1,5 @@
 -- The parts of a record as the writer stores them, one after the other.
-use Rattle.std.specs.Prelude.{◌≡◌, ◌⊎◌, true, cond, ℕ, ltb, length, get_or}
+use Rattle.std.specs.Prelude.{◌≡◌, ◌⊎◌, true, cond, ℕ, ltb, length, get_or, Option, Some, None, Result}
 use mathlib.Core.List.{List, [], ◌++◌, flat_map}
 use Rattle.area.specs.Entries.{digits, up_to}
 use Rattle.grid.specs.Rows.{rising}
@@ -12,12 +12,12 @@ use Rattle.contract.specs.Serialize.{map_of, money_bytes, segment_bytes, record_
 use Rattle.contract.specs.declared.Form.{Form}
 use Rattle.contract.specs.declared.Form.TheVariants.{Ladder, UnitPrices, Table}
 use Rattle.contract.specs.declared.Header.{Header}
-use Rattle.record.specs.Promise.{written_of, length_of, stored}
-use Rattle.record.specs.declared.Written.{Written}
+use Rattle.contract.specs.declared.Refusal.{Refusal}
+use Rattle.record.specs.Promise.{answer_of, length_of, stored}
 
--- how many costs, and how many values, belong to a header with these counts; 0 where they are out of range
-abbrev pub counted : Form → ℕ → List ℕ → ℕ
-counted f n us = cond (in_range f n (units_in f n us)) (entries_in f n us) 0
+-- how many costs, and how many values, belong to a header, if its counts are in range
+abbrev pub counted : Header → Option ℕ
+counted h = cond (in_range h.form h.count (units_in h.form h.count h.units)) (Some (entries_in h.form h.count h.units)) None
 
 -- the contract of a header with these units, costs and values
 abbrev pub contract_with : Header → List ℕ → List ℕ → List ℕ → Contract
@@ -98,10 +98,10 @@ pub record Mapped (h : Header) (us cost_map cs value_map vs : List ℕ) : Type 0
   pub values_rise : rising us vs (length vs) ≡ true
 
 -- the reply and the output area for what is to be written
-pub record Replies (said : Res (List ℕ)) (out : List ℕ) (r : Written) (out' : List ℕ) : Type 0 where
-  pub answer : written_of r ≡ length_of said
+pub record Replies (said : Res (List ℕ)) (out : List ℕ) (r : Result ℕ Refusal) (out' : List ℕ) : Type 0 where
+  pub answer : answer_of r ≡ length_of said
   pub bytes_after : out' ≡ stored (λ bs. bs) said out
 
 -- the same for a contract whose counts are in range
-abbrev pub Answers : Header → List ℕ → List ℕ → List ℕ → List ℕ → Written → List ℕ → Type 0
+abbrev pub Answers : Header → List ℕ → List ℕ → List ℕ → List ℕ → Result ℕ Refusal → List ℕ → Type 0
 Answers h us cs vs out r out' = Replies (record_of (contract_with h us cs vs) (length out)) out r out'

@@ -1,15 +1,15 @@
--- `session::open` meets its contract, by the promise of the check. Assumes nothing.
-use Rattle.session.proofs.OpenLaws.{refused_opens, unsafe_opens, accepted_stands, accepted_opens}
+-- What the check says of a plan is said of its session. Assumes nothing.
+use mathlib.Core.Path.{refl}
+use native.Mathlib.Nat.{sub-zero}
+use Rattle.session.proofs.PlanLaws.{after_none, held_length}
+use Rattle.session.proofs.OpenLaws.{accepted_held}
 use Rattle.session.proofs.open.Goals as goal
 
-pub pass_over-requires : goal.pass_over-requires
-pass_over-requires c = accepted_stands _ _ _ _ _ c.check-reply.ensures c.in-Accepted.is
+pub pass_over-requires-clause-here : goal.pass_over-requires-clause-here
+pass_over-requires-clause-here c =
+    record { held = accepted_held c.args.bytes.now c.args.plan.now c.args.order.now c.in_ok-check.ensures; state_is = after_none _ _ }
 
-pub returns-in-Refused : goal.returns-in-Refused
-returns-in-Refused c = refused_opens _ _ _ _ _ c.check-reply.ensures c.in-Refused.is c.at_step-session.ensures
-
-pub returns-in-Unsafe : goal.returns-in-Unsafe
-returns-in-Unsafe c = unsafe_opens _ _ _ _ _ c.check-reply.ensures c.in-Unsafe.is c.at_step-session.ensures
-
-pub returns-in-Accepted : goal.returns-in-Accepted
-returns-in-Accepted c = accepted_opens _ _ _ _ _ c.check-reply.ensures c.in-Accepted.is c.pass_over.ensures
+pub returns : goal.returns
+returns c =
+    let held = accepted_held c.args.bytes.now c.args.plan.now c.args.order.now c.in_ok-check.ensures in
+    record { checks = c.in_ok-check.ensures; session = rw (c.pass_over.ensures, sub-zero c.args.plan.now.count, held_length _ held) refl }

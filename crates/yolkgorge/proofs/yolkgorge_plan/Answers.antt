@@ -10,4 +10,4 @@ pub steps_or_refusal-requires : goal.steps_or_refusal-requires
 steps_or_refusal-requires c =
     let x = c.args in
     let before : Areas = areas x.places.now x.sums.now x.order.now x.work.now in
-    count_fits Objective.Steps (ahead x.bytes.now before) (answer_of c.plan-answer.result) before _ c.plan-answer.ensures c.well_formed.1.0.0
+    count_fits Objective.Steps (ahead x.bytes.now before) (answer_of c.plan.result) before _ c.plan.ensures c.well_formed.1.0.0

@@ -7,4 +7,4 @@ use Rattle.yolkgorge.proofs.NumberLaws.{count_fits}
 use Rattle.yolkgorge.proofs.yolkgorge_plan_fewest_payments.Goals as goal
 
 pub steps_or_refusal-requires : goal.steps_or_refusal-requires
-steps_or_refusal-requires c = let x = c.args in let before : Areas = plan_areas x.places.now x.sums.now x.order.now in count_fits Objective.Payments (ahead_along x.bytes.now before) (answer_of c.plan_fewest_payments-answer.result) before _ c.plan_fewest_payments-answer.ensures c.well_formed.1.0.0
+steps_or_refusal-requires c = let x = c.args in let before : Areas = plan_areas x.places.now x.sums.now x.order.now in count_fits Objective.Payments (ahead_along x.bytes.now before) (answer_of c.plan_fewest_payments.result) before _ c.plan_fewest_payments.ensures c.well_formed.1.0.0

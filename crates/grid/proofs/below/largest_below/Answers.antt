@@ -6,15 +6,6 @@ use Rattle.grid.proofs.below.largest_below.Goals as goal
 pub returns-then-word-lt256 : goal.returns-then-word-lt256
 returns-then-word-lt256 c = first_below c.requires c.if_any-a.ensures ∙ one_byte c.requires c.if-word-lt256.true
 
-pub item_below-b-requires : goal.item_below-b-requires
-item_below-b-requires c = c.requires.under 1
-
-pub item_below-c-requires : goal.item_below-c-requires
-item_below-c-requires c = c.requires.under 2
-
-pub item_below-requires : goal.item_below-requires
-item_below-requires c = c.requires.under 3
-
 pub returns : goal.returns
 unfolding below_by
 returns c = c.item_below.ensures ∙ rw (c.item_below-c.ensures, c.item_below-b.ensures, first_below c.requires c.if_any-a.ensures)

@@ -1,12 +1,8 @@
 use mathlib.Core.Path.{◌≡◌}
-use mathlib.Core.Bool.{◌&&◌}
-use Prim.Native.Nat.{◌-◌, ◌≤◌}
+use Prim.Native.Nat.{◌-◌}
 use Rattle.area.specs.Entries.{entries}
 use Rattle.grid.specs.Rise.{all_rows, rows_by}
 use Rattle.grid.proofs.rise.rows_rise.Given as goal
 
 abbrev pub invariant-loop-r : goal.invariant-loop-r
-invariant-loop-r l = (l.k ≤ l.r) × (l.r ≤ l.to) × (l.all ≡ (l.rises && all_rows (rows_by l.words l.a l.b l.k (entries 4 l.given)) l.k (l.r - l.k)))
-
-abbrev pub decreases-loop-r : goal.decreases-loop-r
-decreases-loop-r l = l.to - l.r
+invariant-loop-r l = l.all ≡ all_rows (rows_by l.words l.a l.b l.k (entries 4 l.given)) l.k (l.r - l.k)

@@ -3,6 +3,3 @@ use Rattle.grid.proofs.units.all_units.Given as goal
 
 abbrev pub invariant-loop-j : goal.invariant-loop-j
 invariant-loop-j l = Packing l.units l.held l.j l.stride l.one
-
-abbrev pub decreases-loop-j : goal.decreases-loop-j
-decreases-loop-j l = l.j

@@ -1,12 +1,14 @@
 -- `line::opening::delivery_only` meets its contract. Assumes nothing.
+use mathlib.Core.Path.{refl}
 use Rattle.line.proofs.OpeningLaws.{origin_reached, leads_delivery}
 use Rattle.line.proofs.opening.delivery_only.Goals as goal
 
-pub first-requires : goal.first-requires
-first-requires c = tt
-
 pub deliver-cursor-requires : goal.deliver-cursor-requires
-deliver-cursor-requires c = let a = c.args in (c.requires.0, origin_reached a.sides a.units.now a.costs.now a.values.now a.t c.requires.0 c.requires.1 _ c.first.ensures)
+deliver-cursor-requires g c =
+    let x = g.L.Line.course c.args.line.now in
+    origin_reached x.sides x.units x.costs x.values x.all (g.met.L.Line.known c.args.line.now) c.requires _ refl
 
 pub returns : goal.returns
-returns c = let a = c.args in leads_delivery a.sides a.units.now a.costs.now a.values.now a.t c.requires.0 c.requires.1 _ c.deliver-cursor.ensures
+returns g c =
+    let x = g.L.Line.course c.args.line.now in
+    leads_delivery x.sides x.units x.costs x.values x.all (g.met.L.Line.known c.args.line.now) c.requires _ c.deliver-cursor.ensures

@@ -1,21 +1,25 @@
 -- `line::opening::first_for` meets its contract. Assumes nothing.
+use mathlib.Core.Path.{refl}
 use Rattle.exchange.specs.declared.Objective.{Objective}
-use Rattle.line.proofs.DealLaws.{covered}
 use Rattle.line.proofs.OpeningLaws.{leads_none, leads_payment, chosen, chosen_for}
 use Rattle.line.proofs.opening.first_for.Goals as goal
 
-pub payment_only-requires : goal.payment_only-requires
-payment_only-requires c =
-    covered c.args.sides _ _ _ _ c.requires.0 c.requires.1.start_safe
-
 pub returns-in-Steps : goal.returns-in-Steps
-returns-in-Steps c = chosen_for c.args.sides c.args.units.now c.args.costs.now c.args.values.now c.in-Steps.is (chosen c.args.sides c.args.units.now c.args.costs.now c.args.values.now Objective.Steps _ _ (leads_none c.args.sides c.args.units.now c.args.costs.now c.args.values.now c.args.t c.requires.0 c.requires.1 _ c.none.ensures) (λ xs o. o))
+returns-in-Steps g c =
+    let x = g.L.Line.course c.args.line.now in
+    let none = leads_none x.sides x.units x.costs x.values x.all (g.met.L.Line.known c.args.line.now) c.requires _ refl in
+    chosen_for x.sides x.units x.costs x.values c.in-Steps.is (chosen x.sides x.units x.costs x.values Objective.Steps _ _ none (λ xs o. o))
 
 pub returns-in-Payments : goal.returns-in-Payments
-returns-in-Payments c = chosen_for c.args.sides c.args.units.now c.args.costs.now c.args.values.now c.in-Payments.is (chosen c.args.sides c.args.units.now c.args.costs.now c.args.values.now Objective.Payments _ _ c.delivery_only.ensures (λ xs o. o))
+returns-in-Payments g c =
+    let x = g.L.Line.course c.args.line.now in
+    chosen_for x.sides x.units x.costs x.values c.in-Payments.is (chosen x.sides x.units x.costs x.values Objective.Payments _ _ c.delivery_only.ensures (λ xs o. o))
 
 pub returns-in-Deliveries : goal.returns-in-Deliveries
-returns-in-Deliveries c = chosen_for c.args.sides c.args.units.now c.args.costs.now c.args.values.now c.in-Deliveries.is (chosen c.args.sides c.args.units.now c.args.costs.now c.args.values.now Objective.Deliveries _ _ (leads_payment c.args.sides c.args.units.now c.args.costs.now c.args.values.now c.args.t c.requires.0 c.requires.1 _ c.payment_only.ensures) (λ xs o. o))
+returns-in-Deliveries g c =
+    let x = g.L.Line.course c.args.line.now in
+    let paying = leads_payment x.sides x.units x.costs x.values x.all (g.met.L.Line.known c.args.line.now) c.requires _ c.payment_only.ensures in
+    chosen_for x.sides x.units x.costs x.values c.in-Deliveries.is (chosen x.sides x.units x.costs x.values Objective.Deliveries _ _ paying (λ xs o. o))
 
 pub returns-in-Moves : goal.returns-in-Moves
-returns-in-Moves c = chosen_for c.args.sides c.args.units.now c.args.costs.now c.args.values.now c.in-Moves.is c.fewer.ensures
+returns-in-Moves g c = let x = g.L.Line.course c.args.line.now in chosen_for x.sides x.units x.costs x.values c.in-Moves.is c.fewer.ensures

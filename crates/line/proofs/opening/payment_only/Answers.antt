@@ -1,12 +1,11 @@
 -- `line::opening::payment_only` meets its contract. Assumes nothing.
 use mathlib.Core.Path.{refl}
+use Rattle.line.proofs.DealLaws.{covered}
 use Rattle.line.proofs.opening.payment_only.Goals as goal
 
-pub first-cursor-requires : goal.first-cursor-requires
-first-cursor-requires c = tt
-
 pub pay-paid-requires : goal.pay-paid-requires
-pay-paid-requires c = c.requires
+pay-paid-requires g c =
+    rw (c.sides.ensures, c.totals.ensures) (covered _ _ _ _ _ (g.met.L.Line.known c.args.line.now) c.requires.start_safe)
 
 pub returns : goal.returns
-returns c = rw (c.pay-paid.ensures, c.first-cursor.ensures) refl
+returns g c = rw (c.pay-paid.ensures, c.sides.ensures, c.totals.ensures) refl

@@ -6,10 +6,10 @@ use Rattle.line.specs.Code.{Fit}
 use Rattle.line.proofs.SegmentLaws.{units_total, value_total, segments_few, unfit, known}
 use Rattle.line.proofs.sums.add_up.Goals as goal
 
-pub returns-then-units-gt65535 : goal.returns-then-units-gt65535
-returns-then-units-gt65535 c =
+pub returns-then-from-units : goal.returns-then-from-units
+returns-then-from-units c =
     let a = c.args in
-    unfit _ _ _ (λ (f : Fit a.units.now a.costs.now a.values.now). omega (arith, segments_few _ f.have, units_total _ _ _ f, c.if-units-gt65535.true))
+    unfit _ _ _ (λ (f : Fit a.units.now a.costs.now a.values.now). omega (arith, segments_few _ f.have, units_total _ _ _ f, c.if-from-units.true))
 
 pub returns-then-costs-units : goal.returns-then-costs-units
 returns-then-costs-units c =
@@ -26,20 +26,20 @@ returns-then-not-have_units c =
     let a = c.args in
     unfit _ _ _ (λ (f : Fit a.units.now a.costs.now a.values.now). subst T (sym f.have ∙ sym c.have_units.ensures ∙ c.if-not-have_units.true) tt)
 
-pub returns-then-n-gt65535 : goal.returns-then-n-gt65535
-returns-then-n-gt65535 c =
+pub returns-then-from-n : goal.returns-then-from-n
+returns-then-from-n c =
     let a = c.args in
-    unfit _ _ _ (λ (f : Fit a.units.now a.costs.now a.values.now). omega (arith, units_total _ _ _ f, c.count-n.ensures, c.if-n-gt65535.true))
+    unfit _ _ _ (λ (f : Fit a.units.now a.costs.now a.values.now). omega (arith, units_total _ _ _ f, c.count-n.ensures, c.if-from-n.true))
 
-pub returns-then-cost-gt4294967295 : goal.returns-then-cost-gt4294967295
-returns-then-cost-gt4294967295 c =
+pub returns-then-from-cost : goal.returns-then-from-cost
+returns-then-from-cost c =
     let a = c.args in
-    unfit _ _ _ (λ (f : Fit a.units.now a.costs.now a.values.now). omega (arith, f.cost_fits, c.total-cost.ensures, c.if-cost-gt4294967295.true))
+    unfit _ _ _ (λ (f : Fit a.units.now a.costs.now a.values.now). omega (arith, f.cost_fits, c.total-cost.ensures, c.if-from-cost.true))
 
-pub returns-then-value-gt4294967295 : goal.returns-then-value-gt4294967295
-returns-then-value-gt4294967295 c =
+pub returns-then-from-value : goal.returns-then-from-value
+returns-then-from-value c =
     let a = c.args in
-    unfit _ _ _ (λ (f : Fit a.units.now a.costs.now a.values.now). omega (arith, value_total _ _ _ f, c.total-value.ensures, c.if-value-gt4294967295.true))
+    unfit _ _ _ (λ (f : Fit a.units.now a.costs.now a.values.now). omega (arith, value_total _ _ _ f, c.total-value.ensures, c.if-from-value.true))
 
 pub returns : goal.returns
 returns c =

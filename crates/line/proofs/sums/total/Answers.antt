@@ -12,13 +12,11 @@ use Rattle.line.proofs.sums.total.Goals as goal
 pub loop-i-init : goal.loop-i-init
 loop-i-init c = (omega arith, sym (first_sum _ _), omega arith)
 
-pub overflow_add-sum : goal.overflow_add-sum
-overflow_add-sum c = omega (arith, c.amount-sum.ensures, c.requires)
-
 pub loop-i-preserved : goal.loop-i-preserved
 loop-i-preserved c =
-    rw (add-one c.loop-i.i)
-    (omega arith, omega (arith, c.amount-sum.ensures, segment_suc c.args.units.now c.args.amounts.now c.requires.1 c.loop-i.i), omega (arith, c.amount-sum.ensures))
+    let i = c.loop-i.i in
+    rw (add-one i)
+    (omega arith, omega (arith, c.amount-sum.ensures, segment_suc c.args.units.now c.args.amounts.now c.requires.1 i), omega (arith, c.amount-sum.ensures))
 
 pub returns : goal.returns
 returns c =

@@ -1,29 +1,36 @@
 -- `plans::table::plan_rows` meets its contract, by the contracts of its callees. Assumes nothing.
+use mathlib.Core.Path.{ap, ◌∙◌}
 use native.Mathlib.Omega.{arith}
-use lib.ListN.{replicate}
-use Rattle.planning.proofs.Outcome.{room}
-use Rattle.planning.proofs.TablePlan.{few_items, price_within, cells_rise}
-use Rattle.along.proofs.RoomLaws.{stored_eight}
-use Rattle.plans.proofs.PlanLaws.{too_short, areas_short, work_short, all_room, table_work, table_plans, table_impossible, table_unfit}
+use Rattle.std.proofs.Common.{◌<◌, Ok}
+use Rattle.plans.proofs.PlanLaws.{areas_short, work_short, all_room, table_asks, table_work, table_fits, table_plans, table_impossible}
 use Rattle.plans.proofs.table.plan_rows.Goals as goal
 
 pub returns-then-not-has_room : goal.returns-then-not-has_room
-returns-then-not-has_room c = too_short _ _ (areas_short _ _ _ _ c.requires _ c.sum_units-u.ensures.0 _ _ _ _ _ c.has_room.ensures c.if-not-has_room.true)
+returns-then-not-has_room c = areas_short c.args.terms.now c.requires _ c.sum_units.ensures.value _ c.unwrap-u.ensures _ _ _ _ _ c.has_room.ensures c.if-not-has_room.true
 
 pub overflow_mul-costs : goal.overflow_mul-costs
-overflow_mul-costs c = let h = table_work _ _ _ _ c.requires _ c.sum_units-u.ensures.1 in omega (arith, c.sum_units-u.ensures.1)
+overflow_mul-costs c =
+    let h = table_work c.args.terms.now c.requires c.unwrap-u.result in
+    let b : c.unwrap-u.result < 524288 = rw c.unwrap-u.ensures at c.sum_units.ensures.bound in
+    omega arith
 
 pub returns-then-work-costs : goal.returns-then-work-costs
-returns-then-work-costs c = too_short _ _ (work_short _ _ _ _ c.requires _ c.sum_units-u.ensures.0 _ _ _ _ _ c.has_room.ensures c.if-work-costs.true c.if-not-has_room.false)
+returns-then-work-costs c = work_short c.args.terms.now c.requires _ c.sum_units.ensures.value _ c.unwrap-u.ensures _ _ _ _ _ c.has_room.ensures c.if-work-costs.true c.if-not-has_room.false
 
 pub plan-requires : goal.plan-requires
-plan-requires c = let pre = c.requires in (cells_rise _ _ _ _ pre, few_items _ _ _ _ pre, price_within _ _ _ _ pre)
+plan-requires c = table_asks c.args.terms.now c.requires
 
-pub returns-in-Steps : goal.returns-in-Steps
-returns-in-Steps c = table_plans _ _ _ _ c.requires _ _ _ _ _ _ _ (all_room _ _ _ _ c.requires _ c.sum_units-u.ensures.0 _ _ _ _ _ c.has_room.ensures c.if-work-costs.false c.if-not-has_room.false) _ c.plan.ensures _ c.in-Steps.is _ (stored_eight c.args.order.now (replicate 8 0) _ (room _ _ _ (all_room _ _ _ _ c.requires _ c.sum_units-u.ensures.0 c.args.places.now c.args.sums.now c.args.order.now c.args.work.now _ c.has_room.ensures c.if-work-costs.false c.if-not-has_room.false)).order c.store.ensures)
+pub unwrap-requires : goal.unwrap-requires
+unwrap-requires c =
+    let h = all_room c.args.terms.now c.requires _ c.sum_units.ensures.value _ c.unwrap-u.ensures _ _ _ _ _ c.has_room.ensures c.if-work-costs.false c.if-not-has_room.false in
+    table_fits c.args.terms.now c.requires _ _ _ _ _ _ _ h _ c.plan.ensures
 
-pub returns-in-Impossible : goal.returns-in-Impossible
-returns-in-Impossible c = table_impossible _ _ _ _ c.requires _ _ _ _ _ _ _ (all_room _ _ _ _ c.requires _ c.sum_units-u.ensures.0 _ _ _ _ _ c.has_room.ensures c.if-work-costs.false c.if-not-has_room.false) _ c.plan.ensures c.in-Impossible.is
+pub returns-in-Some : goal.returns-in-Some
+returns-in-Some c =
+    let h = all_room c.args.terms.now c.requires _ c.sum_units.ensures.value _ c.unwrap-u.ensures _ _ _ _ _ c.has_room.ensures c.if-work-costs.false c.if-not-has_room.false in
+    table_plans c.args.terms.now c.requires _ _ _ _ _ _ _ h _ c.plan.ensures (c.unwrap.ensures ∙ ap Ok c.in-Some.is) c.store.ensures
 
-pub returns-in-Unfit : goal.returns-in-Unfit
-returns-in-Unfit c = table_unfit _ _ _ _ c.requires _ _ c.args.order.now _ _ _ _ (all_room _ _ _ _ c.requires _ c.sum_units-u.ensures.0 _ _ _ _ _ c.has_room.ensures c.if-work-costs.false c.if-not-has_room.false) _ c.plan.ensures c.in-Unfit.is
+pub returns-in-None : goal.returns-in-None
+returns-in-None c =
+    let h = all_room c.args.terms.now c.requires _ c.sum_units.ensures.value _ c.unwrap-u.ensures _ _ _ _ _ c.has_room.ensures c.if-work-costs.false c.if-not-has_room.false in
+    table_impossible c.args.terms.now c.requires _ _ _ _ _ _ _ h _ c.plan.ensures (c.unwrap.ensures ∙ ap Ok c.in-None.is)

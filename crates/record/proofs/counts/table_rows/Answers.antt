@@ -1,20 +1,22 @@
 use mathlib.Core.Path.{sym, ◌∙◌}
 use mathlib.Core.Bool.{and-false}
 use native.Mathlib.Omega.{arith}
-use borrow.Author.Tests.{le-leb, lt-ltb}
+use borrow.Author.Tests.{le-leb, lt-ltb, le-ltb}
 use lib.ListN.{length}
+use Rattle.std.proofs.lemmas.Bool.Decides.{nat_tests}
 use Rattle.contract.specs.Valid.{in_range}
 use Rattle.record.proofs.counts.table_rows.Goals as goal
+use Rattle.record.proofs.counts.table_rows.Goals.{then-is_empty-via-then-is_empty, then-is_empty-via-else-is_empty+then-not-units_in_range}
 
-pub returns-then-units-eq0 : goal.returns-then-units-eq0
+pub returns-then-is_empty : goal.returns-then-is_empty
 unfolding in_range
-returns-then-units-eq0 c = simp c.if-units-eq0.true
-
-pub returns-then-not-units_in_range : goal.returns-then-not-units_in_range
-unfolding in_range
-returns-then-not-units_in_range c = simp (sym c.units_in_range.ensures ∙ c.if-not-units_in_range.true, and-false)
+returns-then-is_empty c =
+    elim c.then-is_empty.branch [
+      | then-is_empty-via-then-is_empty w ↦ simp (le-ltb 0 (length c.args.units.now) (grind (arith, nat_tests)))
+      | then-is_empty-via-else-is_empty+then-not-units_in_range w ↦ simp (sym w.units_in_range.ensures ∙ w.if-not-units_in_range.true, and-false)
+    ]
 
 pub returns : goal.returns
 unfolding in_range
 returns c =
-    rw (lt-ltb 0 (length c.args.units.now) (omega arith), le-leb _ _ c.requires, sym c.units_in_range.ensures ∙ c.if-not-units_in_range.false) c.row_count.ensures
+    rw (lt-ltb 0 (length c.args.units.now) (grind (arith, nat_tests)), le-leb _ _ c.requires, sym c.units_in_range.ensures ∙ c.if-not-units_in_range.false) c.row_count.ensures

@@ -1,37 +1,23 @@
 use Rattle.contract.specs.Field.{amounts}
-use Rattle.record.specs.View.Field.{view_field}
-use Rattle.record.proofs.Laws.{asked}
+use Rattle.record.proofs.Laws.{got, stop}
 use Rattle.record.proofs.head.amounts.Goals as goal
 
-pub returns-in-Refused : goal.returns-in-Refused
+pub returns-in_err-price : goal.returns-in_err-price
 unfolding amounts
-returns-in-Refused c = record { meets = simp (asked view_field c.money.ensures.meets c.in-Refused.is); small = tt }
+returns-in_err-price c = stop _ c.in_err-price.ensures c.from_residual.ensures.1
 
-pub returns-in-Refused-money : goal.returns-in-Refused-money
+pub returns-in_err-supplier : goal.returns-in_err-supplier
 unfolding amounts
-returns-in-Refused-money c =
-    record {
-      meets = simp (asked view_field c.money.ensures.meets c.in-Got.is, asked view_field c.money-in-Got.ensures.meets c.in-Refused-money.is);
-      small = tt;
-    }
+returns-in_err-supplier c = rw (got c.in_ok-price.ensures) (stop _ c.in_err-supplier.ensures c.from_residual-in_err-supplier.ensures.1)
 
-pub returns-in-Refused-money-2 : goal.returns-in-Refused-money-2
+pub returns-in_err-buyer : goal.returns-in_err-buyer
 unfolding amounts
-returns-in-Refused-money-2 c =
-    record {
-      meets = simp (asked view_field c.money.ensures.meets c.in-Got.is, asked view_field c.money-in-Got.ensures.meets c.in-Got-money.is, asked view_field c.money-in-Got-money.ensures.meets c.in-Refused-money-2.is);
-      small = tt;
-    }
+returns-in_err-buyer c = rw (got c.in_ok-price.ensures, got c.in_ok-supplier.ensures) (stop _ c.in_err-buyer.ensures c.from_residual-in_err-buyer.ensures.1)
 
-pub returns-in-Got-money-2 : goal.returns-in-Got-money-2
+pub returns : goal.returns
 unfolding amounts
-returns-in-Got-money-2 c =
+returns c =
     record {
-      meets = simp (asked view_field c.money.ensures.meets c.in-Got.is, asked view_field c.money-in-Got.ensures.meets c.in-Got-money.is, asked view_field c.money-in-Got-money.ensures.meets c.in-Got-money-2.is);
-      small =
-          record {
-            price = rw c.in-Got.is at c.money.ensures.bound;
-            supplier = rw c.in-Got-money.is at c.money-in-Got.ensures.bound;
-            buyer = rw c.in-Got-money-2.is at c.money-in-Got-money.ensures.bound;
-          };
+      meets = simp (got c.in_ok-price.ensures, got c.in_ok-supplier.ensures, got c.in_ok-buyer.ensures);
+      known = tt;
     }

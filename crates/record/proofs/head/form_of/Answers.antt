@@ -1,19 +1,22 @@
-use borrow.Author.Tests.{eq-eqb, ne_eqb}
+use native.Mathlib.Omega.{arith}
+use borrow.Author.Tests.{ne_eqb}
 use Rattle.contract.specs.Field.{form_of}
 use Rattle.record.proofs.head.form_of.Goals as goal
 
-pub returns-then-bits-eq1 : goal.returns-then-bits-eq1
+pub returns-in-1 : goal.returns-in-1
 unfolding form_of
-returns-then-bits-eq1 c = simp (eq-eqb _ _ c.if-bits-eq1.true)
+returns-in-1 c = record { meets = simp c.in-1.is; known = tt }
 
-pub returns-then-bits-eq2 : goal.returns-then-bits-eq2
+pub returns-in-2 : goal.returns-in-2
 unfolding form_of
-returns-then-bits-eq2 c = simp (ne_eqb _ _ c.if-bits-eq1.false, eq-eqb _ _ c.if-bits-eq2.true)
+returns-in-2 c = record { meets = simp c.in-2.is; known = tt }
 
-pub returns-then-bits-eq4 : goal.returns-then-bits-eq4
+pub returns-in-4 : goal.returns-in-4
 unfolding form_of
-returns-then-bits-eq4 c = simp (ne_eqb _ _ c.if-bits-eq1.false, ne_eqb _ _ c.if-bits-eq2.false, eq-eqb _ _ c.if-bits-eq4.true)
+returns-in-4 c = record { meets = simp c.in-4.is; known = tt }
 
-pub returns : goal.returns
+pub returns-in_default : goal.returns-in_default
 unfolding form_of
-returns c = simp (ne_eqb _ _ c.if-bits-eq1.false, ne_eqb _ _ c.if-bits-eq2.false, ne_eqb _ _ c.if-bits-eq4.false)
+returns-in_default c =
+    let b = c.args.bits in
+    record { meets = simp (ne_eqb b 1 (omega arith), ne_eqb b 2 (omega arith), ne_eqb b 4 (omega arith)); known = tt }

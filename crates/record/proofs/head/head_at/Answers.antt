@@ -1,26 +1,15 @@
-use mathlib.Core.Path.{◌∙◌}
 use Rattle.contract.specs.Field.{head_at}
-use Rattle.record.specs.View.Field.{view_field}
-use Rattle.record.specs.View.Head.{view_form}
-use Rattle.record.proofs.Laws.{asked}
+use Rattle.record.proofs.Laws.{got, stop}
 use Rattle.record.proofs.head.head_at.Goals as goal
 
-pub returns-in-Refused : goal.returns-in-Refused
+pub returns-in_err-map : goal.returns-in_err-map
 unfolding head_at
-returns-in-Refused c = record { meets = simp (asked view_field c.half.ensures.meets c.in-Refused.is); small = tt }
+returns-in_err-map c = stop _ c.in_err-map.ensures c.from_residual.ensures.1
 
-pub returns-in-Refused-form_of : goal.returns-in-Refused-form_of
+pub returns-in_err-form : goal.returns-in_err-form
 unfolding head_at
-returns-in-Refused-form_of c =
-    record {
-      meets = simp (asked view_field c.half.ensures.meets c.in-Got.is, asked view_form c.form_of.ensures c.in-Refused-form_of.is);
-      small = tt;
-    }
+returns-in_err-form c = rw (got c.in_ok-map.ensures) (stop _ c.in_err-form.ensures c.from_residual-in_err-form.ensures.1)
 
-pub returns-in-Is : goal.returns-in-Is
+pub returns : goal.returns
 unfolding head_at
-returns-in-Is c =
-    record {
-      meets = c.amounts.ensures.meets ∙ simp (asked view_field c.half.ensures.meets c.in-Got.is, asked view_form c.form_of.ensures c.in-Is.is);
-      small = c.amounts.ensures.small;
-    }
+returns c = rw (got c.in_ok-map.ensures, got c.in_ok-form.ensures) c.amounts.ensures

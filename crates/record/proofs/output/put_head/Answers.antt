@@ -5,8 +5,8 @@ use Rattle.area.proofs.PutLaws.{puts_then}
 use Rattle.record.proofs.PutLaws.{head_length}
 use Rattle.record.proofs.output.put_head.Goals as goal
 
-pub put_u16-i-requires : goal.put_u16-i-requires
-put_u16-i-requires c = omega (arith, head_length c.args.header)
+pub put-i-requires : goal.put-i-requires
+put-i-requires c = omega (arith, head_length c.args.header)
 
 pub put_money-j-requires : goal.put_money-j-requires
 put_money-j-requires c = omega (arith, head_length c.args.header, digits_length 2 c.map_of.result)
@@ -23,7 +23,7 @@ put_count-requires c = omega (arith, head_length c.args.header, digits_length 2 
 pub returns : goal.returns
 unfolding head_bytes
 returns c =
-    let map = rw c.map_of.ensures at c.put_u16-i.ensures in
+    let map = rw c.map_of.ensures at c.put-i.ensures in
     let price = puts_then map c.put_money-j.ensures in
     let supplier = puts_then price c.put_money-k.ensures in
     let buyer = puts_then supplier c.put_money-l.ensures in

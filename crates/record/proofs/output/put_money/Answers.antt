@@ -4,9 +4,9 @@ use Rattle.contract.specs.Serialize.{money_bytes}
 use Rattle.area.proofs.PutLaws.{puts_none}
 use Rattle.record.proofs.output.put_money.Goals as goal
 
-pub put_u32-requires : goal.put_u32-requires
+pub put-requires : goal.put-requires
 unfolding money_bytes
-put_u32-requires c = simp (ne_eqb _ _ c.if-v-eq0.false, digits_length) at c.requires
+put-requires c = simp (ne_eqb _ _ c.if-v-eq0.false, digits_length) at c.requires
 
 pub returns-then-v-eq0 : goal.returns-then-v-eq0
 unfolding money_bytes
@@ -14,4 +14,4 @@ returns-then-v-eq0 c = rw (eq-eqb _ _ c.if-v-eq0.true) (puts_none _ _)
 
 pub returns-else-v-eq0 : goal.returns-else-v-eq0
 unfolding money_bytes
-returns-else-v-eq0 c = rw (ne_eqb _ _ c.if-v-eq0.false) c.put_u32.ensures
+returns-else-v-eq0 c = rw (ne_eqb _ _ c.if-v-eq0.false) c.put.ensures

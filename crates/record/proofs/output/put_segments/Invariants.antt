@@ -1,5 +1,3 @@
-use Prim.Native.Nat.{◌-◌, ◌≤◌}
-use lib.ListN.{length}
 use Rattle.record.specs.View.Write.{run_bytes}
 use Rattle.area.proofs.PutLaws.{Left}
 use Rattle.record.proofs.PutLaws.{run_from}
@@ -7,7 +5,4 @@ use Rattle.record.proofs.output.put_segments.Given as goal
 
 abbrev pub invariant-loop-i : goal.invariant-loop-i
 invariant-loop-i l =
-    (l.i ≤ length l.costs) × Left (run_bytes l.units l.costs l.values) l.initial.out l.at (run_from l.units l.costs l.values l.i) l.out l.j
-
-abbrev pub decreases-loop-i : goal.decreases-loop-i
-decreases-loop-i l = length l.costs - l.i
+    Left (run_bytes l.units l.costs l.values) l.initial.out l.at (run_from l.units l.costs l.values l.i) l.out l.j

@@ -1,13 +1,8 @@
 use mathlib.Core.Path.{◌≡◌}
 use mathlib.Core.List.{◌++◌}
-use Prim.Native.Nat.{◌-◌, ◌≤◌}
 use lib.ListN.{length, take, drop}
 use Rattle.area.specs.Entries.{entries}
 use Rattle.record.proofs.rows.copy_given.Given as goal
 
 abbrev pub invariant-loop-k : goal.invariant-loop-k
-invariant-loop-k l =
-    (l.k ≤ length (entries 4 l.given)) × ((l.out ≡ take l.k (entries 4 l.given) ++ drop l.k l.initial.out) × (length l.out ≡ length l.initial.out))
-
-abbrev pub decreases-loop-k : goal.decreases-loop-k
-decreases-loop-k l = l.n - l.k
+invariant-loop-k l = (l.out ≡ take l.k (entries 4 l.given) ++ drop l.k l.initial.out) × (length l.out ≡ length l.initial.out)

@@ -5,5 +5,5 @@ use Rattle.record.proofs.rows.last_within.Goals as goal
 pub returns : goal.returns
 returns c =
     let pre = c.requires in
-    rw (c.known_u32.ensures, c.count_u32-n.ensures)
+    rw (c.known.ensures, c.count-n.ensures)
     (last_within (entries 4 c.args.cells.now) pre.last)

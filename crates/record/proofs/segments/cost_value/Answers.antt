@@ -1,31 +1,27 @@
 use native.Mathlib.Omega.{arith}
 use Rattle.contract.specs.Segments.{cost_value}
-use Rattle.record.specs.View.Field.{view_field}
-use Rattle.record.proofs.Laws.{asked}
+use Rattle.record.proofs.Laws.{got, stop}
 use Rattle.record.proofs.segments.cost_value.Goals as goal
 
-pub returns-in-Refused : goal.returns-in-Refused
+pub returns-in_err-cost : goal.returns-in_err-cost
 unfolding cost_value
-returns-in-Refused c = record { meets = simp (asked view_field c.amount.ensures.meets c.in-Refused.is); reached = tt }
+returns-in_err-cost c = stop _ c.in_err-cost.ensures c.from_residual.ensures.1
 
-pub returns-in-Refused-amount : goal.returns-in-Refused-amount
+pub returns-in_err-value : goal.returns-in_err-value
 unfolding cost_value
-returns-in-Refused-amount c =
-    record {
-      meets = simp (asked view_field c.amount.ensures.meets c.in-Got.is, asked view_field c.amount-in-Got.ensures.meets c.in-Refused-amount.is);
-      reached = tt;
-    }
+returns-in_err-value c = rw (got c.in_ok-cost.ensures) (stop _ c.in_err-value.ensures c.from_residual-in_err-value.ensures.1)
 
-pub returns-in-Got-amount : goal.returns-in-Got-amount
+pub returns : goal.returns
 unfolding cost_value
-returns-in-Got-amount c =
-    let a = c.amount.ensures in
-    let b = c.amount-in-Got.ensures in
-    let ea = c.in-Got.is in
-    let eb = c.in-Got-amount.is in
-    let ma = rw ea at a.moved in
-    let mb = rw eb at b.moved in
+returns c =
+    let a = c.in_ok-cost.ensures in
+    let b = c.in_ok-value.ensures in
     record {
-      meets = simp (asked view_field a.meets ea, asked view_field b.meets eb);
-      reached = (omega arith, (mb.1, record { units = c.requires.1.units; cost = rw ea at a.bound; value = rw eb at b.bound }));
+      meets = simp (got a, got b);
+      known =
+          record {
+            at = omega (arith, a.known, b.known);
+            within = b.known.0.1;
+            kept = record { units = c.requires.1.units; cost = a.known.1; value = b.known.1 };
+          };
     }

@@ -1,41 +1,29 @@
 use mathlib.Core.Path.{◌∙◌}
 use native.Mathlib.Omega.{arith}
 use borrow.Author.Tests.{eq-eqb, ne_eqb}
-use Rattle.record.specs.View.Field.{view_field}
-use Rattle.record.specs.View.Segments.{view_step, found}
-use Rattle.record.proofs.Laws.{asked}
-use Rattle.record.proofs.SegmentLaws.{count_ranged, few_segments}
+use Rattle.record.specs.View.Segments.{found}
+use Rattle.record.proofs.Laws.{got, stop}
+use Rattle.record.proofs.SegmentLaws.{count_ranged}
 use Rattle.record.proofs.segments.find_segments.Goals as goal
 
-pub validate-requires : goal.validate-requires
-validate-requires c =
-    (few_segments c.args.priced _ (rw c.in-Got.is at c.segment_count.ensures.bound), ((rw c.in-Got.is at c.segment_count.ensures.moved).1, omega arith))
+pub returns-in_err-n : goal.returns-in_err-n
+unfolding found
+returns-in_err-n g c = rw count_ranged (stop _ c.in_err-n.ensures c.from_residual.ensures.1)
+
+pub returns-in_err-d : goal.returns-in_err-d
+unfolding found
+returns-in_err-d g c = rw (count_ranged, got c.in_ok-n.ensures) (stop _ c.in_err-d.ensures c.from_residual-in_err-d.ensures.1)
 
 pub returns-then-d-s : goal.returns-then-d-s
 unfolding found
-returns-then-d-s c =
-    record {
-      meets = simp (count_ranged c.args.priced c.args.s.now c.args.at ∙ asked view_field c.segment_count.ensures.meets c.in-Got.is, asked view_step c.validate.ensures.meets c.in-Next.is, ne_eqb _ _ c.if-d-s.true);
-      inside = tt;
-    }
+returns-then-d-s g c =
+    record { meets = simp (count_ranged _ c.args.s.now c.args.at ∙ got c.in_ok-n.ensures, got c.in_ok-d.ensures, ne_eqb _ _ c.if-d-s.true); known = tt }
 
-pub returns-in-Refused : goal.returns-in-Refused
+pub returns : goal.returns
 unfolding found
-returns-in-Refused c = record { meets = simp (count_ranged c.args.priced c.args.s.now c.args.at ∙ asked view_field c.segment_count.ensures.meets c.in-Refused.is); inside = tt }
-
-pub returns-in-Refused-validate : goal.returns-in-Refused-validate
-unfolding found
-returns-in-Refused-validate c =
+returns g c =
+    let m = c.in_ok-d.ensures.known in
     record {
-      meets = simp (count_ranged c.args.priced c.args.s.now c.args.at ∙ asked view_field c.segment_count.ensures.meets c.in-Got.is, asked view_step c.validate.ensures.meets c.in-Refused-validate.is);
-      inside = tt;
-    }
-
-pub returns-else-d-s : goal.returns-else-d-s
-unfolding found
-returns-else-d-s c =
-    let m = rw c.in-Next.is at c.validate.ensures.reached in
-    record {
-      meets = simp (count_ranged c.args.priced c.args.s.now c.args.at ∙ asked view_field c.segment_count.ensures.meets c.in-Got.is, asked view_step c.validate.ensures.meets c.in-Next.is, eq-eqb _ _ c.if-d-s.false);
-      inside = record { ends = omega arith; few = rw c.in-Got.is at c.segment_count.ensures.bound; cost = m.1.1.cost; value = m.1.1.value };
+      meets = simp (count_ranged _ c.args.s.now c.args.at ∙ got c.in_ok-n.ensures, got c.in_ok-d.ensures, eq-eqb _ _ c.if-d-s.false);
+      known = record { ends = omega (arith, m.at); few = c.in_ok-n.ensures.known.1; cost = m.kept.cost; value = m.kept.value };
     }

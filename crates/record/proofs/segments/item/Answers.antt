@@ -1,37 +1,21 @@
-use mathlib.Core.Path.{◌∙◌, subst}
-use Prim.Native.Nat.{ℕ}
+use mathlib.Core.Path.{◌≡◌}
+use Prim.Native.Nat.{◌+◌}
 use native.Mathlib.Omega.{arith}
 use borrow.Author.Tests.{le-leb, lt-leb}
 use Rattle.contract.specs.Segments.{segment}
-use Rattle.record.specs.View.Field.{view_field}
-use Rattle.record.specs.View.Segments.{Reached, view_step}
-use Rattle.record.proofs.Laws.{asked, ranged_of}
+use Rattle.record.proofs.Laws.{got, stop}
 use Rattle.record.proofs.segments.item.Goals as goal
 
-pub overflow_add-units : goal.overflow_add-units
-overflow_add-units c = omega (arith, rw c.in-Got.is at c.in_range.ensures.bound, c.requires.units)
+pub returns-in_err-n : goal.returns-in_err-n
+unfolding segment
+returns-in_err-n c = stop _ c.in_err-n.ensures c.from_residual.ensures.1
 
 pub returns-then-units-gt1000 : goal.returns-then-units-gt1000
 unfolding segment
-returns-then-units-gt1000 c =
-    let g = ranged_of c.in_range.result c.byte.ensures c.in_range.ensures in
-    record { meets = simp (asked view_field g.meets c.in-Got.is, lt-leb _ _ c.if-units-gt1000.true); reached = tt }
+returns-then-units-gt1000 c = record { meets = simp (got c.in_ok-n.ensures, lt-leb _ _ c.if-units-gt1000.true); known = tt }
 
-pub cost_value-requires : goal.cost_value-requires
-cost_value-requires c = (omega (arith, rw c.in-Got.is at c.in_range.ensures.bound), record { units = c.if-units-gt1000.false; cost = c.requires.cost; value = c.requires.value })
-
-pub returns-in-Refused : goal.returns-in-Refused
+pub returns : goal.returns
 unfolding segment
-returns-in-Refused c =
-    let g = ranged_of c.in_range.result c.byte.ensures c.in_range.ensures in
-    record { meets = simp (asked view_field g.meets c.in-Refused.is); reached = tt }
-
-pub returns-else-units-gt1000 : goal.returns-else-units-gt1000
-unfolding segment
-returns-else-units-gt1000 c =
-    let g = ranged_of c.in_range.result c.byte.ensures c.in_range.ensures in
-    let m = rw c.in-Got.is at g.moved in
-    record {
-      meets = c.cost_value.ensures.meets ∙ simp (asked view_field g.meets c.in-Got.is, le-leb _ _ c.if-units-gt1000.false);
-      reached = subst (λ (e : ℕ). Reached c.args.s.now e (view_step c.cost_value.result)) (omega arith) c.cost_value.ensures.reached;
-    }
+returns c =
+    let e : c.in_ok-n.at + 8 ≡ c.args.c.at + 9 = omega (arith, c.in_ok-n.ensures.known) in
+    simp (got c.in_ok-n.ensures, le-leb _ _ c.if-units-gt1000.false) (rw e at c.cost_value.ensures)

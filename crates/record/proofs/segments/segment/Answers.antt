@@ -1,10 +1,6 @@
 use Rattle.contract.specs.Segments.{segment}
 use Rattle.record.proofs.segments.segment.Goals as goal
 
-pub returns-then-priced : goal.returns-then-priced
+pub returns-else-this-ne0 : goal.returns-else-this-ne0
 unfolding segment
-returns-then-priced c = rw c.if-priced.true c.item.ensures
-
-pub returns-else-priced : goal.returns-else-priced
-unfolding segment
-returns-else-priced c = rw c.if-priced.false c.cost_value.ensures
+returns-else-this-ne0 g c = rw c.if-this-ne0.false c.cost_value.ensures

@@ -1,14 +1,19 @@
 use mathlib.Core.Path.{◌≡◌}
-use Prim.Native.Nat.{◌+◌, ◌*◌, ◌≤◌}
+use mathlib.Core.Bool.{Bool}
+use Prim.Native.Nat.{◌+◌, ◌-◌, ◌*◌, ◌≤◌}
+use denote.Param.{number}
 use lib.ListN.{length}
 use Rattle.contract.specs.Segments.{segments, size}
 use Rattle.record.specs.View.Segments.{sums, Kept}
+use Rattle.record.specs.contracts.segments.segments.{PRICED-type}
 use Rattle.record.proofs.segments.segments.Given as goal
 
-abbrev pub invariant-loop-left : goal.invariant-loop-left
-invariant-loop-left l =
-    (segments l.priced l.s l.left (sums l.d) ≡ segments l.priced l.s l.initial.left (sums l.initial.d))
-    × ((l.d.at + l.left * size l.priced ≡ l.initial.d.at + l.initial.left * size l.priced) × ((l.d.at ≤ length l.s) × Kept (sums l.d)))
+-- the const parameter
+abbrev pub priced : goal.Over → Bool
+priced g = PRICED-type (number g.row.PRICED)
 
-abbrev pub decreases-loop-left : goal.decreases-loop-left
-decreases-loop-left l = l.left
+-- the segments that are left decide, and reach as far
+abbrev pub invariant-loop-k : goal.invariant-loop-k
+invariant-loop-k g l =
+    (segments (priced g) l.s (l.n - l._k) (sums l.d) ≡ segments (priced g) l.s l.n (sums l.initial.d))
+    × ((l.d.at + (l.n - l._k) * size (priced g) ≡ l.initial.d.at + l.n * size (priced g)) × ((l.d.at ≤ length l.s) × Kept (sums l.d)))

@@ -1,74 +1,42 @@
 use Rattle.contract.specs.Table.{grids_at, part}
-use Rattle.record.specs.View.Table.{view_grid}
-use Rattle.record.proofs.Laws.{asked}
-use Rattle.record.proofs.TableLaws.{RowCount, units_front, units_read, counted, rows_none, rows_some, units_counted}
+use Rattle.contract.specs.declared.Refusal.TheVariants.{Range}
+use Rattle.record.proofs.Laws.{got, stop, stopped, none_of}
+use Rattle.record.proofs.TableLaws.{RowCount, units_read, rows_read, rows_over}
 use Rattle.record.proofs.table.grids_at.Goals as goal
+use Rattle.record.proofs.table.grids_at.Goals.{In_ok-rows}
 
-pub slice_bounds-row_count-end : goal.slice_bounds-row_count-end
-slice_bounds-row_count-end c = units_front _ _ _ _ c.units_of-units.ensures
+rows_of : (c : In_ok-rows) → RowCount (part c.args.first c.args.after c.args.s.now) c.in_ok-rows.rows
+rows_of c = rows_read c.requires c.units_of-units.ensures _ c.row_count.ensures Range c.in_ok-rows.ensures.value
 
-pub returns-then-rows-eq0 : goal.returns-then-rows-eq0
+pub returns-in_err-rows : goal.returns-in_err-rows
 unfolding grids_at
-returns-then-rows-eq0 c =
-    let a = c.args in
-    record {
-      meets = simp (rows_none (part a.first a.after a.s.now) (counted c.requires c.units_of-units.ensures c.row_count-rows.ensures) c.if-rows-eq0.true);
-      laid = tt;
-      rises_is = tt;
-    }
+returns-in_err-rows c =
+    let none = none_of c.row_count.result c.in_err-rows.ensures.value in
+    stopped Range (simp (rows_over c.requires c.units_of-units.ensures _ c.row_count.ensures none.0)) (rw none.1 at c.from_residual.ensures.1)
 
-pub slice_bounds-grid_at-end : goal.slice_bounds-grid_at-end
-slice_bounds-grid_at-end c = units_front _ _ _ _ c.units_of-units.ensures
-
-pub grid_at-requires : goal.grid_at-requires
-grid_at-requires c =
-    let rows_read : RowCount (part c.args.first c.args.after c.args.s.now) c.row_count-rows.result = rows_some _ (counted c.requires c.units_of-units.ensures c.row_count-rows.ensures) c.if-rows-eq0.false in
-    units_counted c.requires c.units_of-units.ensures (rows_read)
-
-pub slice_bounds-grid_at-end-in-Got : goal.slice_bounds-grid_at-end-in-Got
-slice_bounds-grid_at-end-in-Got c = units_front _ _ _ _ c.units_of-units.ensures
-
-pub grid_at-requires-in-Got : goal.grid_at-requires-in-Got
-grid_at-requires-in-Got c =
-    let rows_read : RowCount (part c.args.first c.args.after c.args.s.now) c.row_count-rows.result = rows_some _ (counted c.requires c.units_of-units.ensures c.row_count-rows.ensures) c.if-rows-eq0.false in
-    units_counted c.requires c.units_of-units.ensures (rows_read)
-
-pub returns-in-Refused : goal.returns-in-Refused
+pub returns-in_err-costs : goal.returns-in_err-costs
 unfolding grids_at
-returns-in-Refused c =
-    let rows_read : RowCount (part c.args.first c.args.after c.args.s.now) c.row_count-rows.result = rows_some _ (counted c.requires c.units_of-units.ensures c.row_count-rows.ensures) c.if-rows-eq0.false in
-    let r = rows_read in
-    record { meets = simp (r.test, rw r.rows at (asked view_grid c.grid_at.ensures.meets c.in-Refused.is)); laid = tt; rises_is = tt }
+returns-in_err-costs c =
+    let r = rows_of (goal.at.returns-in_err-costs c).In_ok-rows in
+    simp r.test (stop _ (rw r.rows at c.in_err-costs.ensures) c.from_residual-in_err-costs.ensures.1)
 
-pub returns-in-Refused-grid_at : goal.returns-in-Refused-grid_at
+pub returns-in_err-values : goal.returns-in_err-values
 unfolding grids_at
-returns-in-Refused-grid_at c =
-    let rows_read : RowCount (part c.args.first c.args.after c.args.s.now) c.row_count-rows.result = rows_some _ (counted c.requires c.units_of-units.ensures c.row_count-rows.ensures) c.if-rows-eq0.false in
-    let r = rows_read in
-    record {
-      meets =
-          simp (r.test, rw r.rows at (asked view_grid c.grid_at.ensures.meets c.in-Got.is), rw r.rows at (asked view_grid c.grid_at-in-Got.ensures.meets c.in-Refused-grid_at.is));
-      laid = tt;
-      rises_is = tt;
-    }
+returns-in_err-values c =
+    let r = rows_of (goal.at.returns-in_err-values c).In_ok-rows in
+    simp (r.test, rw r.rows at (got c.in_ok-costs.ensures)) (stop _ (rw r.rows at c.in_err-values.ensures) c.from_residual-in_err-values.ensures.1)
 
-pub returns-in-Got-grid_at : goal.returns-in-Got-grid_at
+pub returns : goal.returns
 unfolding grids_at
-returns-in-Got-grid_at c =
-    let rows_read : RowCount (part c.args.first c.args.after c.args.s.now) c.row_count-rows.result = rows_some _ (counted c.requires c.units_of-units.ensures c.row_count-rows.ensures) c.if-rows-eq0.false in
-    let r = rows_read in
+returns c =
+    let r = rows_of (goal.at.returns c).In_ok-rows in
     let us = units_read c.requires c.units_of-units.ensures in
-    let costs = c.in-Got.is in
-    let values = c.in-Got-grid_at.is in
+    let costs = c.in_ok-costs.ensures in
+    let values = c.in_ok-values.ensures in
     record {
-      meets = simp (r.rows, r.test, rw r.rows at (asked view_grid c.grid_at.ensures.meets costs), rw r.rows at (asked view_grid c.grid_at-in-Got.ensures.meets values));
-      laid =
-          record {
-            items = c.requires;
-            rows_are = r.rows;
-            rows_le = r.few;
-            costs_in = rw costs at c.grid_at.ensures.within;
-            values_in = rw values at c.grid_at-in-Got.ensures.within;
-          };
-      rises_is = record { costs_rise = rw (costs, us) at c.grid_at.ensures.rises_is; values_rise = rw (values, us) at c.grid_at-in-Got.ensures.rises_is };
+      meets = simp (r.rows, r.test, rw r.rows at (got costs), rw r.rows at (got values));
+      known = (
+        record { items = c.requires; rows_are = r.rows; rows_le = r.few; costs_in = costs.known.within; values_in = values.known.within },
+        record { costs_rise = rw us at costs.known.rises_is; values_rise = rw us at values.known.rises_is },
+      );
     }

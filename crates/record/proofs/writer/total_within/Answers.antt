@@ -12,8 +12,8 @@ use Rattle.record.proofs.writer.total_within.Goals as goal
 pub loop-i-init : goal.loop-i-init
 loop-i-init c = omega arith
 
-pub returns-then-total-gt-LIMIT : goal.returns-then-total-gt-LIMIT
-returns-then-total-gt-LIMIT c = sym (lt-leb (total (each c.args.units.now (length c.args.amounts.now)) c.args.amounts.now) limit (omega (arith, total_turn c.args.units.now c.args.amounts.now c.loop-i.i c.loop-i-test.true)))
+pub returns-then-from-total : goal.returns-then-from-total
+returns-then-from-total c = sym (lt-leb (total (each c.args.units.now (length c.args.amounts.now)) c.args.amounts.now) limit (omega (arith, total_turn c.args.units.now c.args.amounts.now c.loop-i.i c.loop-i-test.true)))
 
 pub loop-i-preserved : goal.loop-i-preserved
 loop-i-preserved c = omega (arith, total_turn c.args.units.now c.args.amounts.now c.loop-i.i c.loop-i-test.true)

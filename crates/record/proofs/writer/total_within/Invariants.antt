@@ -1,5 +1,5 @@
 use mathlib.Core.Path.{◌≡◌}
-use Prim.Native.Nat.{◌+◌, ◌-◌, ◌≤◌}
+use Prim.Native.Nat.{◌+◌, ◌≤◌}
 use lib.ListN.{length}
 use Rattle.contract.specs.Contract.{limit}
 use Rattle.contract.specs.Valid.{total}
@@ -9,7 +9,4 @@ use Rattle.record.proofs.writer.total_within.Given as goal
 
 abbrev pub invariant-loop-i : goal.invariant-loop-i
 invariant-loop-i l =
-    (l.i ≤ length l.amounts) × (l.total ≤ limit) × (Rattle.contract.specs.Valid.total (each l.units (length l.amounts)) l.amounts ≡ l.total + total_from l.units l.amounts l.i)
-
-abbrev pub decreases-loop-i : goal.decreases-loop-i
-decreases-loop-i l = length l.amounts - l.i
+    (l.total ≤ limit) × (Rattle.contract.specs.Valid.total (each l.units (length l.amounts)) l.amounts ≡ l.total + total_from l.units l.amounts l.i)

@@ -1,24 +1,20 @@
--- `session::Session::report` meets its contract, by the contracts of its callees. Assumes nothing.
-use mathlib.Core.Bool.{not}
-use mathlib.Core.Path.{ap}
-use Rattle.session.proofs.PlanLaws.{count_held}
-use Rattle.session.proofs.CodeLaws.{open_at, report_short, report_finished}
+use mathlib.Core.Path.{refl}
+use Rattle.session.proofs.CodeLaws.{report_short, report_finished, report_open}
 use Rattle.session.proofs.Session.report.Goals as goal
 
 pub returns-then-not-holds : goal.returns-then-not-holds
-returns-then-not-holds c = rw c.answer.ensures (report_short _ _ _ _ _ _ c.holds.ensures (ap not c.if-not-holds.true))
+returns-then-not-holds c =
+    rw (c.refused.ensures, report_short c.args.plan.now _ _ _ c.holds.ensures c.if-not-holds.true) (record { reply = refl; session = refl })
 
 pub returns-then-finished : goal.returns-then-finished
-returns-then-finished c = rw c.answer-then-finished.ensures (report_finished _ _ _ _ _ _ (count_held _ _ _ c.holds.ensures (ap not c.if-not-holds.false)) c.finished.ensures c.if-finished.true)
+returns-then-finished c =
+    rw (
+      c.refused-then-finished.ensures,
+      report_finished c.args.plan.now c.args.self _ _ c.holds.ensures c.if-not-holds.false c.finished.ensures c.if-finished.true,
+    ) (record { reply = refl; session = refl })
 
-pub deliver-requires : goal.deliver-requires
-deliver-requires c = open_at _ _ _ _ (count_held _ _ _ c.holds.ensures (ap not c.if-not-holds.false)) c.finished.ensures c.if-finished.false
+pub take-requires : goal.take-requires
+take-requires c = report_open c.args.plan.now c.args.self c.args.side c.args.number c.holds.ensures c.if-not-holds.false c.finished.ensures c.if-finished.false
 
-pub pay-requires : goal.pay-requires
-pay-requires c = open_at _ _ _ _ (count_held _ _ _ c.holds.ensures (ap not c.if-not-holds.false)) c.finished.ensures c.if-finished.false
-
-pub returns-in-Delivery : goal.returns-in-Delivery
-returns-in-Delivery c = rw c.in-Delivery.is c.deliver.ensures
-
-pub returns-in-Payment : goal.returns-in-Payment
-returns-in-Payment c = rw c.in-Payment.is c.pay.ensures
+pub take-requires-in-Payment : goal.take-requires-in-Payment
+take-requires-in-Payment c = report_open c.args.plan.now c.args.self c.args.side c.args.number c.holds.ensures c.if-not-holds.false c.finished.ensures c.if-finished.false

@@ -1,8 +1,8 @@
--- `yolkgorge::resting::store` meets its contract, by the contract of its callee. Assumes nothing.
-use Rattle.yolkgorge.proofs.SessionLaws.{marks_stored}
+use mathlib.Core.Path.{◌∙◌}
+use Rattle.yolkgorge.proofs.SessionLaws.{marks_stored, mark_is}
 use Rattle.yolkgorge.proofs.resting.store.Goals as goal
 
 pub returns : goal.returns
 returns c =
-    let x = c.args in
-    marks_stored x.state.now x.passed x.delivered x.paid c.put_u64.ensures
+    rw (c.from.ensures ∙ mark_is _, c.from-2.ensures ∙ mark_is _)
+    (marks_stored c.args.state.now c.args.session.passed _ _ c.save.ensures.stored)

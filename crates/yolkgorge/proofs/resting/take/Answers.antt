@@ -4,4 +4,4 @@ use Rattle.yolkgorge.proofs.resting.take.Goals as goal
 
 pub returns : goal.returns
 unfolding session_in
-returns c = rw c.num_u64-passed.ensures
+returns c = rw c.load.ensures

@@ -1,6 +1,0 @@
-use mathlib.Core.Path.{sym}
-use Rattle.area.proofs.Laws.{entries_length}
-use Rattle.area.proofs.count_u16.Goals as goal
-
-pub returns : goal.returns
-returns c = sym (entries_length 2 c.args.area.now)

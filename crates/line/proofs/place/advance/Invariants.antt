@@ -1,9 +1,0 @@
-use Prim.Native.Nat.{◌-◌}
-use Rattle.line.specs.CheckCode.{Ahead}
-use Rattle.line.proofs.place.advance.Given as goal
-
-abbrev pub invariant-loop-c : goal.invariant-loop-c
-invariant-loop-c l = Ahead l.units l.costs l.values l.c l.place
-
-abbrev pub decreases-loop-c : goal.decreases-loop-c
-decreases-loop-c l = l.place - l.c.place

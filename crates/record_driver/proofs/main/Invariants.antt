@@ -1,7 +1,0 @@
-use Rattle.record_driver.proofs.main.Given as goal
-
-abbrev pub invariant-loop-cases : goal.invariant-loop-cases
-invariant-loop-cases l = Unit {0}
-
-abbrev pub decreases-loop-cases : goal.decreases-loop-cases
-decreases-loop-cases l = l.cases
