@@ -1,5 +1,5 @@
 // Little-endian numbers in byte areas, of any width that `Entry` has. A remainder too short for an entry counts as none and stays.
-// What lies past the end reads 0, and a store there changes nothing: only `known` asks for an entry that there is.
+// What lies past the end reads 0, and a store there changes nothing: only `known` asks for an entry that there is, and `Entry` itself for room.
 #![tactic(auto)]
 
 ghost use Rattle.std.specs.Prelude.{◌≡◌, ◌+◌, ◌<◌, leb, length, get_or, replicate};

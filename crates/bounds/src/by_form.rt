@@ -9,7 +9,9 @@ use contract::{Form, Refusal};
 use exchange::Bounds;
 use planning::{BoundsError, Terms};
 
-// The bounds of a place of a record that is no ladder's: its costs and values fit into two areas of 128.
+// The bounds of a place of a record that is no ladder's: its costs and values fit into two areas of 128. Not compiled into its caller: a ladder's
+// bounds would else need the stack of both areas.
+#[inline(never)]
 pub(crate) fn bounds_other(bytes: &[u8], place: usize, order: &[u8]) -> Result<Bounds, BoundsError>
     requires { OtherFound bytes.now }
     ensures { bounded_of result ≡ bounds_of bytes.now place order.now }

@@ -72,7 +72,9 @@ fn other_safe(terms: &Terms, plan: &Brought) -> bool
     }
 }
 
-// Checks a plan of a record that is no ladder's: its costs and values fit into two areas of 128.
+// Checks a plan of a record that is no ladder's: its costs and values fit into two areas of 128. Not compiled into its caller: a ladder's check
+// would else need the stack of both areas.
+#[inline(never)]
 pub(crate) fn check_other(
     bytes: &[u8],
     count: usize,

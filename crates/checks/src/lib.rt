@@ -14,7 +14,8 @@ use brought::Brought;
 use planning::CheckError;
 use record::{Found, Ladder};
 
-// Checks a plan of a ladder that was found in its record.
+// Checks a plan of a ladder that was found in its record. Not compiled into its caller, where its loop would have fewer registers.
+#[inline(never)]
 fn check_ladder(
     l: Ladder,
     bytes: &[u8],

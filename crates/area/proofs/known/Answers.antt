@@ -7,7 +7,7 @@ pub overflow_mul-k : goal.overflow_mul-k
 overflow_mul-k g c = rw c.BYTES.ensures (omega (arith, entry_room _ _ _ c.requires g.met.T.Entry.some_bytes))
 
 pub load-requires : goal.load-requires
-load-requires g c = rw c.BYTES.ensures (entry_room _ _ _ c.requires g.met.T.Entry.some_bytes)
+load-requires g c = rw c.BYTES.ensures (omega (arith, entry_room _ _ _ c.requires g.met.T.Entry.some_bytes))
 
 pub returns : goal.returns
 returns g c = c.load.ensures ∙ rw c.BYTES.ensures (entry_num _ _ _ c.requires)

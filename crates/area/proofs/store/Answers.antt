@@ -6,7 +6,7 @@ pub overflow_mul-k : goal.overflow_mul-k
 overflow_mul-k g c = rw c.BYTES.ensures (omega (arith, entry_room _ _ _ (rw c.count.ensures at c.if-k-count.true) g.met.T.Entry.some_bytes))
 
 pub save-requires : goal.save-requires
-save-requires g c = rw c.BYTES.ensures (entry_room _ _ _ (rw c.count.ensures at c.if-k-count.true) g.met.T.Entry.some_bytes)
+save-requires g c = rw c.BYTES.ensures (omega (arith, entry_room _ _ _ (rw c.count.ensures at c.if-k-count.true) g.met.T.Entry.some_bytes))
 
 pub returns-then-k-count : goal.returns-then-k-count
 returns-then-k-count g c =
